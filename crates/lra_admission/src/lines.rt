@@ -1,6 +1,19 @@
 //! The lines of a file of keys.
 
-ghost use Rattle.std.specs.Prelude.{◌≡◌, true, false, ℕ, ◌<◌, ◌∷◌, length, slice_index, All, option_map, IfSome, IfNone};
+ghost use Rattle.std.specs.Prelude.{
+  ◌≡◌,
+  true,
+  false,
+  ℕ,
+  ◌<◌,
+  ◌∷◌,
+  length,
+  slice_index,
+  All,
+  option_map,
+  IfSome,
+  IfNone,
+};
 ghost use Rattle.lra_admission.specs.Lines as spec;
 ghost use Rattle.lra_admission.specs.inner.Left.{lines_left};
 

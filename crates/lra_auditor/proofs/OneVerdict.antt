@@ -106,7 +106,8 @@ one_verdict bytes (Sound s) (Sound t) (v, i, J, h, e) (w, j, K, k, f) =
     ap Sound (e ∙ ap summary (texts_apart v w i j J K h.spelled k.spelled (sym h.whole ∙ k.whole)).2 ∙ sym f)
 one_verdict bytes (Sound s) (Unsound n q) (v, i, J, h, _) k = absurd (no_fault v i J bytes n q h k)
 one_verdict bytes (Unsound m r) (Sound t) h (w, j, K, k, _) = absurd (no_fault w j K bytes m r k h)
-one_verdict bytes (Unsound m r) (Unsound n q) h k = let (same, rule) = one_fault bytes m n r q h k in λ x. Unsound (same x) (rule x)
+one_verdict bytes (Unsound m r) (Unsound n q) h k = let (same, rule) = one_fault bytes m n r q h k in
+    λ x. Unsound (same x) (rule x)
 
 -- the text of a legal history has the verdict Sound
 pub legal_text_verdict : (v : Version) (i : ℕ) (J : History) → i < 2 ^ 60 → is_legal v is_address J ≡ true

@@ -27,7 +27,8 @@ Breaks v J rest r =
     ⊎ ((e : Entry) × (more : List ℕ) × HasLine v e × (rest ≡ line e ++ more) × (broken v is_address J e ≡ Some r))
 
 -- bytes go on after the text of a legal history, and what comes next breaks a rule
-pub record IsFaultAfter (bytes : List ℕ) (number : ℕ) (r : Rule) (v : Version) (i : ℕ) (J : History) (rest : List ℕ) : Type 0 where
+pub record IsFaultAfter (bytes : List ℕ) (number : ℕ) (r : Rule) (v : Version) (i : ℕ) (J : History)
+    (rest : List ℕ) : Type 0 where
   pub place : number ≡ length J + 2
   pub front : IsTextOf v i J (text v i J)
   pub whole : bytes ≡ text v i J ++ rest

@@ -11,7 +11,8 @@ use Rattle.lra_audits.specs.inner.Fed.{IsFedOn}
 use Rattle.lra_audits.specs.Taking.{IsCounted}
 
 -- the taker has what the reader gave, and so many more bytes may come
-pub record IsGiven {T : Type 0} (took : T → T → List ℕ → Type 0) (count : T → ℕ) (before now : Option (List ℕ)) (first taker : T) (left : ℕ) : Type 0 where
+pub record IsGiven {T : Type 0} (took : T → T → List ℕ → Type 0) (count : T → ℕ) (before now : Option (List ℕ))
+    (first taker : T) (left : ℕ) : Type 0 where
   pub bytes : List ℕ
   pub consumed : Consumes before now bytes
   pub taken : took first taker bytes
@@ -23,7 +24,8 @@ pub consumed_long : (a b : Option (List ℕ)) (bs : List ℕ) (n : ℕ) → Cons
     → IfSome a (λ all. n < length all)
 consumed_long None b bs n h lt = tt
 consumed_long (Some xs) None bs n h lt = absurd h
-consumed_long (Some xs) (Some ys) bs n h lt = let e : length xs ≡ length bs + length ys = ap length h ∙ length-append bs ys in omega arith
+consumed_long (Some xs) (Some ys) bs n h lt = let e : length xs ≡ length bs + length ys = ap length h
+    ∙ length-append bs ys in omega arith
 
 -- an auditor that is fed these bytes, and then those
 pub IsFedOn-trans : (a b c : Feed) (xs ys : List ℕ) → IsFedOn a b xs → IsFedOn b c ys → IsFedOn a c (xs ++ ys)

@@ -56,7 +56,9 @@ kept_popped before after m ns is stays last n g =
     mark_at-without_last marked zero other = refl
     mark_at-without_last marked (suc k) other = elim (cases_lt k (length marked - 1)) [
       | inl inside ↦ get_or-take (length marked - 1) marked k false inside
-      | inr past ↦ get_or_past (without_last marked) k false (let l = length-take-le (length marked - 1) marked (omega arith) in omega arith) ∙ sym (get_or_past marked k false (omega arith))
+      | inr past ↦ get_or_past (without_last marked) k false
+          (let l = length-take-le (length marked - 1) marked (omega arith) in omega arith)
+          ∙ sym (get_or_past marked k false (omega arith))
     ]
 
 length-pushed : (m : Marking) → length (pushed m).marked ≡ suc (length m.marked)
@@ -200,11 +202,13 @@ module _ (J : History) (by m : ℕ) where
 
   one_more_action : (c : ℕ) (d : Deed) → started_by d ≡ Some c → length (state_of (more J by m d)).actions
       ≡ suc (length (state_of J).actions)
-  one_more_action c d e = let n = many_actions d (Some c) e in let o = length-map (actions J) (action_row J) in let l = length-append (actions J) (c ∷ []) in omega arith
+  one_more_action c d e = let n = many_actions d (Some c) e in let o = length-map (actions J) (action_row J) in
+      let l = length-append (actions J) (c ∷ []) in omega arith
 
   one_more_member : (p : ℕ) (d : Deed) → joined_by d ≡ Some p → length (state_of (more J by m d)).members
       ≡ suc (length (state_of J).members)
-  one_more_member p d e = let n = many_members d (Some p) e in let o = length-map (members J) (member_row J) in let l = length-append (members J) (p ∷ []) in omega arith
+  one_more_member p d e = let n = many_members d (Some p) e in let o = length-map (members J) (member_row J) in
+      let l = length-append (members J) (p ∷ []) in omega arith
 
   action_number : (c : ℕ) (d : Deed) (xs : List ℕ) → started_by d ≡ Some c → c ≡ length (actions J) + 1
       → is_among (c ∷ xs) (length (state_of (more J by m d)).actions) ≡ true
@@ -254,13 +258,16 @@ module _ (J : History) (by m : ℕ) where
   numbers_by : (d : Deed) (r : Ready) → MarkedBut (state_of (more J by m d)) r [] [] → has_numbers d r ≡ true
   numbers_by (Start c above limit) r h =
       let n = one_more_action c (Start c above limit) refl in
-      and_intro (nat_lt 0 (length r.turns.marked)) (nat_lt 0 (length r.ends.marked)) (lt-ltb 0 (length r.turns.marked) (let k = h.sized.turns in omega arith)) (lt-ltb 0 (length r.ends.marked) (let k = h.sized.ends in omega arith))
+      and_intro (nat_lt 0 (length r.turns.marked)) (nat_lt 0 (length r.ends.marked))
+      (lt-ltb 0 (length r.turns.marked) (let k = h.sized.turns in omega arith))
+      (lt-ltb 0 (length r.ends.marked) (let k = h.sized.ends in omega arith))
   numbers_by (Join p a uris) r h =
       let n = one_more_member p (Join p a uris) refl in
       lt-ltb 0 (length r.skips.marked) (let k = h.sized.skips in omega arith)
   numbers_by d r h = refl
 
-module _ (v : Version) (t : List ℕ → Bool) (J : History) (e : Entry) (r : Ready) (l : is_legal v t J ≡ true) (k : allows v t J e ≡ true) where
+module _ (v : Version) (t : List ℕ → Bool) (J : History) (e : Entry) (r : Ready) (l : is_legal v t J ≡ true)
+    (k : allows v t J e ≡ true) where
   is_told : Told J e.by e.deed
   is_told = told v t J e.by e.moment e.deed (allowed v t J e k)
 

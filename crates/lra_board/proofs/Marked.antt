@@ -21,7 +21,7 @@ use Rattle.lra_laws.specs.inner.RowFacts.{facts_by, member_by, action_by}
 use Rattle.lra_laws.specs.Settles.{may_skip_by, turn_by, end_by}
 use Rattle.lra_laws.specs.Sheets.{Sheet, StandsFor}
 use Rattle.lra_laws.specs.inner.Concerned.{members_concerned, actions_concerned}
-use Rattle.lra_laws.proofs.Legal.{parent_there}
+use Rattle.lra_laws.proofs.Named.{parent_there}
 use Rattle.lra_laws.proofs.MemberRows.{absent_row}
 use Rattle.lra_rows.specs.declared.found.MemberRow.{MemberRow as FoundMember}
 use Rattle.lra_rows.specs.Found.{found_action, found_member}
@@ -110,7 +110,13 @@ pub member_absent : (s : State) (r : Ready) (p : ℕ) → (0 < p → length r.sk
     → MarkedBut s r (p ∷ ps) xs → MarkedBut s r ps xs
 member_absent s r p past ps xs h =
     let size = h.sized.skips in
-    record { sized = h.sized; turns = h.turns; ends = h.ends; skips = absent (may_skip_by s) p ps r.skips.marked past (no_skip s p (row_past s.members p (λ some. let g = past some in omega arith))) h.skips }
+    record {
+      sized = h.sized;
+      turns = h.turns;
+      ends = h.ends;
+      skips = absent (may_skip_by s) p ps r.skips.marked past
+          (no_skip s p (row_past s.members p (λ some. let g = past some in omega arith))) h.skips;
+    }
 
 -- an action is looked at anew
 pub action_marked : (s : State) (r : Ready) (a : ℕ) (turns ends : Marking) → 0 < a → a ≤ length r.turns.marked → a
@@ -147,8 +153,10 @@ action_absent s r a past ps xs h =
     record {
       sized = h.sized;
       skips = h.skips;
-      turns = absent (λ x. is_some (turn_by s x)) a xs r.turns.marked (λ some. let g = beyond some in omega arith) (no_turn s a none) h.turns;
-      ends = absent (λ x. is_some (end_by s x)) a xs r.ends.marked (λ some. let g = beyond some in omega arith) (no_end s a none) h.ends;
+      turns = absent (λ x. is_some (turn_by s x)) a xs r.turns.marked (λ some. let g = beyond some in omega arith)
+          (no_turn s a none) h.turns;
+      ends = absent (λ x. is_some (end_by s x)) a xs r.ends.marked (λ some. let g = beyond some in omega arith)
+          (no_end s a none) h.ends;
     }
 
 -- ---- loops over rows to be looked at

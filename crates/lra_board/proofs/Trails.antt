@@ -43,26 +43,32 @@ trail_more b es ks now after e k h follows is back gives = record {
   at = is ∙ ap (carried e) h.at ∙ sym (carried_all-push b es e);
   many = length-append ks (k ∷ []) ∙ (let n = h.many in omega arith) ∙ sym (length-append es (e ∷ []));
   follows = λ i x g. elim (of_more es e i x g) [
-    | inl before ↦ subst (λ (xs : List Entry). Follows (carried_all b xs).rows.sheet x) (sym (take-push es e i (let l = before.0 in omega arith))) (h.follows i x before.1)
+    | inl before ↦ subst (λ (xs : List Entry). Follows (carried_all b xs).rows.sheet x)
+        (sym (take-push es e i (let l = before.0 in omega arith))) (h.follows i x before.1)
     | inr here ↦ subst (λ (y : Entry). Follows (carried_all b (take i (es ++ e ∷ []))).rows.sheet y) here.1
         (subst (λ (c : Boarded). Follows c.rows.sheet e) (sym (whole i here.0)) follows)
   ];
   back = λ i x q g f. elim (of_more es e i x g) [
     | inl before ↦
         let old = older i q before.0 f in
-        ap (λ (xs : List Entry). uncarried x q (carried_all b xs)) (take-push es e (suc i) (let l = before.0 in omega arith)) ∙ h.back i x q before.1 old ∙ ap (carried_all b) (sym (take-push es e i (let l = before.0 in omega arith)))
+        ap (λ (xs : List Entry). uncarried x q (carried_all b xs))
+        (take-push es e (suc i) (let l = before.0 in omega arith)) ∙ h.back i x q before.1 old
+        ∙ ap (carried_all b) (sym (take-push es e i (let l = before.0 in omega arith)))
     | inr here ↦
         let same : k ≡ q = newest i q here.0 f in
-        ap (λ (xs : List Entry). uncarried x q (carried_all b xs)) (take_all (suc i) (es ++ e ∷ []) (let l = length-append es (e ∷ []) in let n = here.0 in omega arith))
+        ap (λ (xs : List Entry). uncarried x q (carried_all b xs))
+        (take_all (suc i) (es ++ e ∷ []) (let l = length-append es (e ∷ []) in let n = here.0 in omega arith))
         ∙ (λ j. uncarried (sym here.1 j) (sym same j) (now_is j))
         ∙ back ∙ sym (whole i here.0)
   ];
   given = λ i x q g f. elim (of_more es e i x g) [
     | inl before ↦
-        ap (λ (xs : List Entry). addresses_back q (carried_all b xs).rows) (take-push es e (suc i) (let l = before.0 in omega arith)) ∙ h.given i x q before.1 (older i q before.0 f)
+        ap (λ (xs : List Entry). addresses_back q (carried_all b xs).rows)
+        (take-push es e (suc i) (let l = before.0 in omega arith)) ∙ h.given i x q before.1 (older i q before.0 f)
     | inr here ↦
         let same : k ≡ q = newest i q here.0 f in
-        ap (λ (xs : List Entry). addresses_back q (carried_all b xs).rows) (take_all (suc i) (es ++ e ∷ []) (let l = length-append es (e ∷ []) in let n = here.0 in omega arith))
+        ap (λ (xs : List Entry). addresses_back q (carried_all b xs).rows)
+        (take_all (suc i) (es ++ e ∷ []) (let l = length-append es (e ∷ []) in let n = here.0 in omega arith))
         ∙ (λ j. addresses_back (sym same j) (now_is j).rows)
         ∙ gives ∙ ap (λ (y : Entry). addresses_joined y.deed) here.1
   ];
@@ -75,10 +81,18 @@ trail_more b es ks now after e k h follows is back gives = record {
     now_is = carried_all-push b es e ∙ ap (carried e) (sym h.at) ∙ sym is
 
     older : (i : ℕ) (q : Step) → i < length es → slice_get (ks ++ k ∷ []) i ≡ Some q → slice_get ks i ≡ Some q
-    older i q l f = elim (of_more ks k i q f) [ inl before ↦ before.1 | inr here ↦ let n = h.many in let m = here.0 in absurd (omega arith) ]
+    older i q l f = elim (of_more ks k i q f) [
+      | inl before ↦ before.1
+      | inr here ↦ let n = h.many in let m = here.0 in
+          absurd (omega arith)
+    ]
 
     newest : (i : ℕ) (q : Step) → i ≡ length es → slice_get (ks ++ k ∷ []) i ≡ Some q → k ≡ q
-    newest i q l f = elim (of_more ks k i q f) [ inl before ↦ let n = h.many in let m = before.0 in absurd (omega arith) | inr here ↦ here.1 ]
+    newest i q l f = elim (of_more ks k i q f) [
+      | inl before ↦ let n = h.many in let m = before.0 in
+          absurd (omega arith)
+      | inr here ↦ here.1
+    ]
 
 take_next : {X : Type 0} (xs : List X) (i : ℕ) (x : X) → slice_get xs i ≡ Some x → take (suc i) xs ≡ take i xs ++ x ∷ []
 take_next [] i x h = absurd cc

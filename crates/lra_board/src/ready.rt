@@ -1,6 +1,20 @@
 //! Which rows are ready to settle.
 
-ghost use Rattle.std.specs.Prelude.{◌≡◌, ℕ, List, ◌∷◌, ◌++◌, [], is_some, option_map, option_to_list, true, false, OnOk, OnErr};
+ghost use Rattle.std.specs.Prelude.{
+  ◌≡◌,
+  ℕ,
+  List,
+  ◌∷◌,
+  ◌++◌,
+  [],
+  is_some,
+  option_map,
+  option_to_list,
+  true,
+  false,
+  OnOk,
+  OnErr,
+};
 ghost use Rattle.lra_model.specs.History.{History};
 ghost use Rattle.lra_model.specs.Actions.{parent, members_of};
 ghost use Rattle.lra_model.specs.Members.{Asked, ask_of, action_of};

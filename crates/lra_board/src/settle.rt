@@ -1,6 +1,21 @@
 //! An entry with all that settles after it, looked ahead and taken back.
 
-ghost use Rattle.std.specs.Prelude.{◌≡◌, ℕ, List, ◌∷◌, ◌++◌, [], true, ◌<◌, vec_len, vec_capacity, OnOk, IfSome, nat_lt, ◌^◌};
+ghost use Rattle.std.specs.Prelude.{
+  ◌≡◌,
+  ℕ,
+  List,
+  ◌∷◌,
+  ◌++◌,
+  [],
+  true,
+  ◌<◌,
+  vec_len,
+  vec_capacity,
+  OnOk,
+  IfSome,
+  nat_lt,
+  ◌^◌,
+};
 ghost use Rattle.lra_board.specs.inner.Trail.{IsTrail, Going, SettlesTo};
 
 use crate::board::Board;
@@ -60,7 +75,26 @@ impl Trail {
 }
 
 impl Board {
-    ghost use Rattle.std.specs.Prelude.{◌≡◌, ◌∷◌, ◌++◌, [], true, ◌<◌, vec_len, vec_capacity, length, nat_lt, slice_get, ◌^◌, OnOk, IfOk, Some, List, ℕ, Bool};
+    ghost use Rattle.std.specs.Prelude.{
+      ◌≡◌,
+      ◌∷◌,
+      ◌++◌,
+      [],
+      true,
+      ◌<◌,
+      vec_len,
+      vec_capacity,
+      length,
+      nat_lt,
+      slice_get,
+      ◌^◌,
+      OnOk,
+      IfOk,
+      Some,
+      List,
+      ℕ,
+      Bool,
+    };
     ghost use Rattle.lra_model.specs.declared.version.Version.{Version};
     ghost use Rattle.lra_model.specs.History.{History};
     ghost use Rattle.lra_model.specs.Settling.{next_settling, most_settling, with_settling};

@@ -71,8 +71,10 @@ member_asked s J by m p = (cases (is_among (clerks J) by) (is_among (members J) 
     cases false c = refl
 
 asked : (s : Terms) (J : History) (by m : ℕ) (o : Command) (q : Query) → asks o ≡ Some q → IsAsked s J (call by m o) q
-asked s J by m (command.Status a) q h = let e : query.ActionStatus a ≡ q = cc in subst (IsAsked s J (call by m (command.Status a))) e (status_asked s J by m a)
-asked s J by m (command.MemberStatus p) q h = let e : query.MemberStatus p ≡ q = cc in subst (IsAsked s J (call by m (command.MemberStatus p))) e (member_asked s J by m p)
+asked s J by m (command.Status a) q h = let e : query.ActionStatus a ≡ q = cc in
+    subst (IsAsked s J (call by m (command.Status a))) e (status_asked s J by m a)
+asked s J by m (command.MemberStatus p) q h = let e : query.MemberStatus p ≡ q = cc in
+    subst (IsAsked s J (call by m (command.MemberStatus p))) e (member_asked s J by m p)
 asked s J by m _ q h = absurd cc
 
 pub commands_ask : CommandsAsk

@@ -104,7 +104,9 @@ settling_legal v t (suc n) by m J w = next (next_settling J) refl (λ K. settlin
   where
     next : (o : Option Deed) → next_settling J ≡ o → ((K : History) → MayWrite v t K by m
         → is_legal v t (K ++ settling_within n by m K) ≡ true)
-        → is_legal v t (J ++ option_map_or (λ (d : Deed). (let e : Entry = record { by = by; moment = m; deed = d } in e) ∷ settling_within n by m (J ++ (let e : Entry = record { by = by; moment = m; deed = d } in e) ∷ [])) o []) ≡ true
+        → is_legal v t (J ++ option_map_or
+        (λ (d : Deed). (let e : Entry = record { by = by; moment = m; deed = d } in e) ∷ settling_within n by m
+        (J ++ (let e : Entry = record { by = by; moment = m; deed = d } in e) ∷ [])) o []) ≡ true
     next None g rest = ap (is_legal v t) (append-nil J) ∙ w.legal
     next (Some d) g rest =
         let e : Entry = record { by = by; moment = m; deed = d } in
@@ -169,7 +171,9 @@ own_allowed s J by m (command.Start parent limit) l k call u d h w =
     let x : Entry = record { by = by; moment = max m (last_moment J); deed = deed.Start n parent limit } in
     let count : length (actions (J ++ x ∷ [])) ≡ length (actions J) + 1 =
     one_more (λ (y : Entry). started_by y.deed) J x n refl in
-    let v : IsWithin s.limits (J ++ x ∷ []) = subst (λ (y : Deed). IsWithin s.limits (J ++ (let z : Entry = record { by = by; moment = max m (last_moment J); deed = y } in z) ∷ [])) (sym e) w in
+    let v : IsWithin s.limits (J ++ x ∷ []) = subst
+    (λ (y : Deed). IsWithin s.limits
+    (J ++ (let z : Entry = record { by = by; moment = max m (last_moment J); deed = y } in z) ∷ [])) (sym e) w in
     let most = v.actions in
     let low = l.actions in
     subst (IsAllowed s J by (max m (last_moment J))) e (start_allowed s J by (max m (last_moment J)) parent limit
@@ -193,7 +197,10 @@ own_allowed s J by m (command.Join a uris) l k call u d h w = fresh (is_some
         } in
         let count : length (members (J ++ x ∷ [])) ≡ length (members J)
         + 1 = one_more (λ (y : Entry). joined_by y.deed) J x n refl in
-        let v : IsWithin s.limits (J ++ x ∷ []) = subst (λ (y : Deed). IsWithin s.limits (J ++ (let z : Entry = record { by = by; moment = max m (last_moment J); deed = y } in z) ∷ [])) (sym e) w in
+        let v : IsWithin s.limits (J ++ x ∷ []) = subst
+        (λ (y : Deed). IsWithin s.limits
+        (J ++ (let z : Entry = record { by = by; moment = max m (last_moment J); deed = y } in z) ∷ []))
+        (sym e) w in
         let most = v.members in
         let low = l.members in
         subst (IsAllowed s J by (max m (last_moment J))) e

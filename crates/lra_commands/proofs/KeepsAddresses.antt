@@ -39,12 +39,20 @@ more_next c text k = let h : next c < 256 = omega arith in one_more (next c) tex
 character_bytes : (c : ℕ) → c < 1114112 → AreBytes (encode c)
 unfolding encode
 character_bytes c h =
-    cond_both (nat_lt c 128) (c ∷ []) _ AreBytes (λ t. let low = ltb-true c 128 t in let k : c < 256 = omega arith in one_more c [] k no_bytes) λ t.
-    cond_both (nat_lt c 2048) ((192 + c / 64) ∷ next c ∷ []) _ AreBytes (λ u. let low = ltb-true c 2048 u in let k : 192 + c / 64 < 256 = omega arith in one_more (192 + c / 64) (next c ∷ []) k (more_next c [] no_bytes)) λ u.
+    cond_both (nat_lt c 128) (c ∷ []) _ AreBytes (λ t. let low = ltb-true c 128 t in let k : c < 256 = omega arith in
+    one_more c [] k no_bytes) λ t.
+    cond_both (nat_lt c 2048) ((192 + c / 64) ∷ next c ∷ []) _ AreBytes
+    (λ u. let low = ltb-true c 2048 u in let k : 192 + c / 64 < 256 = omega arith in
+    one_more (192 + c / 64) (next c ∷ []) k (more_next c [] no_bytes)) λ u.
     cond_both (nat_lt c 65536) ((224 + c / 4096) ∷ next (c / 64) ∷ next c ∷ [])
     ((240 + c / 262144) ∷ next (c / 4096) ∷ next (c / 64) ∷ next c ∷ []) AreBytes
-    (λ w. let low = ltb-true c 65536 w in let k : 224 + c / 4096 < 256 = omega arith in one_more (224 + c / 4096) (next (c / 64) ∷ next c ∷ []) k (more_next (c / 64) (next c ∷ []) (more_next c [] no_bytes)))
-    λ w. let k : 240 + c / 262144 < 256 = omega arith in one_more (240 + c / 262144) (next (c / 4096) ∷ next (c / 64) ∷ next c ∷ []) k (more_next (c / 4096) (next (c / 64) ∷ next c ∷ []) (more_next (c / 64) (next c ∷ []) (more_next c [] no_bytes)))
+    (λ w. let low = ltb-true c 65536 w in let k : 224 + c / 4096 < 256 = omega arith in
+    one_more (224 + c / 4096) (next (c / 64) ∷ next c ∷ []) k
+    (more_next (c / 64) (next c ∷ []) (more_next c [] no_bytes)))
+    λ w. let k : 240 + c / 262144 < 256 = omega arith in
+    one_more (240 + c / 262144) (next (c / 4096) ∷ next (c / 64) ∷ next c ∷ []) k
+    (more_next (c / 4096) (next (c / 64) ∷ next c ∷ [])
+    (more_next (c / 64) (next c ∷ []) (more_next c [] no_bytes)))
 
 characters_bytes : (cs : List ℕ) → scalars cs ≡ true → AreBytes (encodes cs)
 characters_bytes [] h = no_bytes
@@ -53,7 +61,8 @@ characters_bytes (c ∷ cs) h =
     All-append (λ b. b < 256) (encode c) (encodes cs) (character_bytes c (low k.0)) (characters_bytes cs k.1)
   where
     low : scalar c ≡ true → c < 1114112
-    low g = ⊎_elim (λ (i : c < 55296). let z : c < 1114112 = omega arith in z) (λ (i : (57344 ≤ c) × (c < 1114112)). i.1) (scalar_cases c g)
+    low g = ⊎_elim (λ (i : c < 55296). let z : c < 1114112 = omega arith in z)
+        (λ (i : (57344 ≤ c) × (c < 1114112)). i.1) (scalar_cases c g)
 
 text_bytes : (text : List ℕ) → is_utf8 text ≡ true → AreBytes text
 text_bytes text h = let k = IsUtf8-from_is_utf8 text h in subst AreBytes k.1.1 (characters_bytes k.0 k.1.0)

@@ -21,8 +21,9 @@ use Rattle.lra_model.specs.Rules.{is_legal}
 use Rattle.lra_model.specs.Settling.{may_be_skipped, by_parent, next_settling}
 use Rattle.lra_model.specs.Wants.{wants}
 use Rattle.lra_laws.proofs.Push.{actions_push}
-use Rattle.lra_laws.proofs.Legal.{among_push, numbered_among, numbered_fresh, actions_numbered, parent_stays}
-use Rattle.lra_laws.proofs.Legal.{parent_of_new, parent_there}
+use Rattle.lra_laws.proofs.Legal.{among_push, numbered_among, numbered_fresh, actions_numbered}
+use Rattle.lra_laws.proofs.Named.{parent_stays}
+use Rattle.lra_laws.proofs.Named.{parent_of_new, parent_there}
 use Rattle.lra_laws.proofs.Writes.{MayWrite, may_go_on}
 use Rattle.lra_laws.proofs.Settled.{settling_allowed}
 use Rattle.lra_ids.specs.Addresses.{is_address}
@@ -74,7 +75,8 @@ steps_enough v t J l (suc n) (suc m) a h k = above (parent J a) refl (steps_enou
     above : (o : Option ℕ) → parent J a ≡ o → ((b : ℕ) → b ≤ n → b ≤ m → lineage_within n J b ≡ lineage_within m J b)
         → ◌≡◌ {A = List ℕ} (a ∷ option_map_or (lineage_within n J) o []) (a ∷ option_map_or (lineage_within m J) o [])
     above None g up = refl
-    above (Some b) g up = let less = (parent_there v t J l a b g).less in ap (λ (bs : List ℕ). a ∷ bs) (up b (omega arith) (omega arith))
+    above (Some b) g up = let less = (parent_there v t J l a b g).less in
+        ap (λ (bs : List ℕ). a ∷ bs) (up b (omega arith) (omega arith))
 
 depth_stays : (v : Version) (t : List ℕ → Bool) (J : History) → is_legal v t J ≡ true → (e : Entry) (a : ℕ)
     → is_among (actions J) a ≡ true → depth (J ++ e ∷ []) a ≡ depth J a
@@ -195,7 +197,9 @@ settling_shallow v t l (suc n) by m J w h = next (next_settling J) refl (settlin
   where
     next : (o : Option Deed) → next_settling J ≡ o → IfSome o StartsNone
         → ((K : History) → MayWrite v t K by m → IsShallow l K → IsShallow l (K ++ settling_within n by m K))
-        → IsShallow l (J ++ option_map_or (λ (d : Deed). (let e : Entry = record { by = by; moment = m; deed = d } in e) ∷ settling_within n by m (J ++ (let e : Entry = record { by = by; moment = m; deed = d } in e) ∷ [])) o [])
+        → IsShallow l (J ++ option_map_or
+        (λ (d : Deed). (let e : Entry = record { by = by; moment = m; deed = d } in e) ∷ settling_within n by m
+        (J ++ (let e : Entry = record { by = by; moment = m; deed = d } in e) ∷ [])) o [])
     next None g none rest = subst (IsShallow l) (sym (append-nil J)) h
     next (Some d) g none rest =
         let e : Entry = record { by = by; moment = m; deed = d } in
@@ -240,7 +244,9 @@ own_depth : (s : Terms) (J : History) (by m w : ℕ) (c : Command) → is_legal 
     → NoneHolds (command_grounds s J m c) → (d : Deed) → own_deed s J m c ≡ Some d
     → (a : ℕ) → started_by d ≡ Some a → depth (J ++ record { by = by; moment = w; deed = d } ∷ []) a ≤ s.limits.depth
 own_depth s J by m w (command.Start o limit) l u d h a i =
-    subst (λ (x : Deed). (b : ℕ) → started_by x ≡ Some b → depth (J ++ (let e : Entry = record { by = by; moment = w; deed = x } in e) ∷ []) b ≤ s.limits.depth) same of_start a i
+    subst (λ (x : Deed). (b : ℕ) → started_by x ≡ Some b
+    → depth (J ++ (let e : Entry = record { by = by; moment = w; deed = x } in e) ∷ []) b ≤ s.limits.depth) same
+    of_start a i
   where
     n : ℕ
     n = length (actions J) + 1
@@ -248,16 +254,22 @@ own_depth s J by m w (command.Start o limit) l u d h a i =
     same : deed.Start n o limit ≡ d
     same = cc
 
-    deep : depth (J ++ (let e : Entry = record { by = by; moment = w; deed = deed.Start n o limit } in e) ∷ []) n ≤ s.limits.depth
+    deep : depth (J ++ (let e : Entry = record { by = by; moment = w; deed = deed.Start n o limit } in e) ∷ [])
+        n ≤ s.limits.depth
     deep = rw (depth_of_new s.version is_address J l by w o limit (not-false _ u.0))
         (ltb-false s.limits.depth (option_map_or (λ b. depth J b + 1) o 1) u.1.1.1.0)
 
-    of_start : (b : ℕ) → started_by (deed.Start n o limit) ≡ Some b → depth (J ++ (let e : Entry = record { by = by; moment = w; deed = deed.Start n o limit } in e) ∷ []) b ≤ s.limits.depth
-    of_start b j = let is : n ≡ b = cc in subst (λ (x : ℕ). depth (J ++ (let e : Entry = record { by = by; moment = w; deed = deed.Start n o limit } in e) ∷ []) x ≤ s.limits.depth) is deep
+    of_start : (b : ℕ) → started_by (deed.Start n o limit) ≡ Some b
+        → depth (J ++ (let e : Entry = record { by = by; moment = w; deed = deed.Start n o limit } in e) ∷ [])
+        b ≤ s.limits.depth
+    of_start b j = let is : n ≡ b = cc in
+        subst (λ (x : ℕ). depth (J ++ (let e : Entry = record { by = by; moment = w; deed = deed.Start n o limit } in
+        e) ∷ []) x ≤ s.limits.depth) is deep
 own_depth s J by m w c l u d h a i =
     absurd (never (own_deed s J m c) (others_start_none s J m c (λ o limit k. absurd cc)) d h a i)
 
 pub own_shallow : (s : Terms) (J : History) (by m w : ℕ) (c : Command) → is_legal s.version is_address J ≡ true
     → NoneHolds (command_grounds s J m c) → (d : Deed) → own_deed s J m c ≡ Some d → IsShallow s.limits J
     → IsShallow s.limits (J ++ record { by = by; moment = w; deed = d } ∷ [])
-own_shallow s J by m w c l u d h shallow = shallow_push s.version is_address J l s.limits (let e : Entry = record { by = by; moment = w; deed = d } in e) shallow (own_depth s J by m w c l u d h)
+own_shallow s J by m w c l u d h shallow = shallow_push s.version is_address J l s.limits
+    (let e : Entry = record { by = by; moment = w; deed = d } in e) shallow (own_depth s J by m w c l u d h)

@@ -25,7 +25,8 @@ use Rattle.lra_model.specs.Tests.{addresses_fit, may_report, limit_has_passed}
 use Rattle.lra_model.specs.Rules.{is_action, is_member, is_here, is_number, has_deed}
 use Rattle.lra_model.specs.Wants.{wants}
 use Rattle.lra_laws.proofs.Tested.{both, and_intro}
-use Rattle.lra_laws.proofs.Legal.{Allowed, action_fact, at_action_from, at_member_from, state_is_lem}
+use Rattle.lra_laws.proofs.Legal.{Allowed, action_fact, at_action_from, at_member_from}
+use Rattle.lra_laws.proofs.Named.{state_is_lem}
 use Rattle.lra_laws.proofs.LegalAsks.{outstanding_there}
 use Rattle.lra_laws.proofs.Ranges.{action_in_range, member_in_range, ask_in_range}
 use Rattle.lra_laws.proofs.Writes.{MayWrite, known_deed, may_write}

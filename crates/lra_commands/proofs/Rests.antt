@@ -39,7 +39,9 @@ settling_rests v t (suc n) by m J w h = next (next_settling J) refl (λ K. settl
   where
     next : (o : Option Deed) → next_settling J ≡ o → ((K : History) → MayWrite v t K by m → left_to_settle K ≤ n
         → next_settling (K ++ settling_within n by m K) ≡ None)
-        → next_settling (J ++ option_map_or (λ (d : Deed). (let e : Entry = record { by = by; moment = m; deed = d } in e) ∷ settling_within n by m (J ++ (let e : Entry = record { by = by; moment = m; deed = d } in e) ∷ [])) o []) ≡ None
+        → next_settling (J ++ option_map_or
+        (λ (d : Deed). (let e : Entry = record { by = by; moment = m; deed = d } in e) ∷ settling_within n by m
+        (J ++ (let e : Entry = record { by = by; moment = m; deed = d } in e) ∷ [])) o []) ≡ None
     next None g rest = ap next_settling (append-nil J) ∙ g
     next (Some d) g rest =
         let e : Entry = record { by = by; moment = m; deed = d } in

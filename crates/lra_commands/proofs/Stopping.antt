@@ -47,7 +47,8 @@ refused_as s J c r h = some (refused s J c) h
 
 never_answered : (s : Terms) (J : History) (c : Call) (r : Refusal) → is_outside r ≡ true → answer s J c ≢ Err r
 unfolding refused
-never_answered s J c r outside h = let bad = other_first is_outside (grounds s J c) (never_named s J c.by c.moment c.command) r (refused_as s J c r h) in absurd cc
+never_answered s J c r outside h = let bad = other_first is_outside (grounds s J c)
+    (never_named s J c.by c.moment c.command) r (refused_as s J c r h) in absurd cc
 
 -- so a refusal of a coordinator is one of a counter
 pub refused_at : (s : Terms) (J : History) (c : Call) (r : Refusal) → IsRefusal s J c r → IsRefusedAt s J c r

@@ -67,7 +67,8 @@ unfolding actions
 some_action J rest by m n limit parent =
     let e : Entry = record { by = by; moment = m; deed = deed.Start n parent limit } in
     rw (filter_map-append (λ (x : Entry). started_by x.deed) J (e ∷ rest))
-    (let long = length-append (filter_map (λ (x : Entry). started_by x.deed) J) (n ∷ filter_map (λ (x : Entry). started_by x.deed) rest) in omega (arith, long))
+    (let long = length-append (filter_map (λ (x : Entry). started_by x.deed) J)
+    (n ∷ filter_map (λ (x : Entry). started_by x.deed) rest) in omega (arith, long))
 
 some_member : (J rest : History) (by m n a : ℕ) (u : Addresses)
     → 1 ≤ length (members (J ++ record { by = by; moment = m; deed = deed.Join n a u } ∷ rest))
@@ -75,7 +76,8 @@ unfolding members
 some_member J rest by m n a u =
     let e : Entry = record { by = by; moment = m; deed = deed.Join n a u } in
     rw (filter_map-append (λ (x : Entry). joined_by x.deed) J (e ∷ rest))
-    (let long = length-append (filter_map (λ (x : Entry). joined_by x.deed) J) (n ∷ filter_map (λ (x : Entry). joined_by x.deed) rest) in omega (arith, long))
+    (let long = length-append (filter_map (λ (x : Entry). joined_by x.deed) J)
+    (n ∷ filter_map (λ (x : Entry). joined_by x.deed) rest) in omega (arith, long))
 
 found_among : (f : ℕ → Bool) (ns : List ℕ) (n : ℕ) → find f ns ≡ Some n → is_among ns n ≡ true
 found_among f [] n e = absurd cc
@@ -83,7 +85,8 @@ found_among f (x ∷ ns) n e = by_first (f x) refl (found_among f ns n) e
   where
     by_first : (b : Bool) → f x ≡ b → (find f ns ≡ Some n → is_among ns n ≡ true) → cond b (Some x) (find f ns) ≡ Some n
         → is_among (x ∷ ns) n ≡ true
-    by_first true g rest h = let same : x ≡ n = ap (λ o. unwrap_or o x) h in let P : ℕ → Type 0 = λ m. is_among (x ∷ ns) m ≡ true in subst P same (among_here x ns)
+    by_first true g rest h = let same : x ≡ n = ap (λ o. unwrap_or o x) h in
+        let P : ℕ → Type 0 = λ m. is_among (x ∷ ns) m ≡ true in subst P same (among_here x ns)
     by_first false g rest h = among_there x ns n (rest h)
 
 -- a member that has joined already

@@ -46,7 +46,8 @@ one_passes {X = X} test (suc m) (x ∷ xs) y h = by (test x) h (one_passes test 
         → cond b (x ∷ filter test xs) (filter test xs) ≡ y ∷ filter test
         (drop (cond (not b) (1 + place) 0 + 1) (x ∷ xs))
     by true g rest = let e : x ≡ y = cc in ap (λ z. z ∷ filter test xs) e
-    by false g rest = let e : suc (place + 1) ≡ (1 + place) + 1 = omega arith in rest g ∙ ap (λ k. y ∷ filter test (drop k (x ∷ xs))) e
+    by false g rest = let e : suc (place + 1) ≡ (1 + place) + 1 = omega arith in
+        rest g ∙ ap (λ k. y ∷ filter test (drop k (x ∷ xs))) e
 
 -- ---- from place to place
 

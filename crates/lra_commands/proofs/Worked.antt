@@ -323,7 +323,8 @@ pub finishes : run one (at 0 Enrol ∷ at 0 (Start 1 None 0) ∷ at 1 (Join 1 1 
     ≡ (
       Ok (Clerk 2) ∷ Ok Restarted ∷ [],
       at 0 Enrol ∷ at 0 (Start 1 None 0) ∷ at 1 (Join 1 1 (uris u None None None None)) ∷ at 2 (Close 1 cause.Client)
-          ∷ map (λ (d : Deed). let e : Entry = record { by = 2; moment = 9; deed = d } in e) (Enrol ∷ Skip 1 ∷ End 1 action.Closed ∷ Restart ∷ []),
+          ∷ map (λ (d : Deed). let e : Entry = record { by = 2; moment = 9; deed = d } in e)
+          (Enrol ∷ Skip 1 ∷ End 1 action.Closed ∷ Restart ∷ []),
     )
 unfolding steps clerks actions members asks last_moment parent top action_status limit_in_force children members_of
     depth action_of addresses_of has_left stays was_asked ask_of replies decided member_status last_reply was_answered

@@ -34,7 +34,8 @@ settling_by zero by m J = tt
 settling_by (suc n) by m J = next (next_settling J) (λ K. settling_by n by m K)
   where
     next : (o : Option Deed) → ((K : History) → AreBy by (settling_within n by m K))
-        → AreBy by (option_map_or (λ (d : Deed). (let e : Entry = record { by = by; moment = m; deed = d } in e) ∷ settling_within n by m (J ++ (let e : Entry = record { by = by; moment = m; deed = d } in e) ∷ [])) o [])
+        → AreBy by (option_map_or (λ (d : Deed). (let e : Entry = record { by = by; moment = m; deed = d } in e)
+        ∷ settling_within n by m (J ++ (let e : Entry = record { by = by; moment = m; deed = d } in e) ∷ [])) o [])
     next None rest = tt
     next (Some d) rest = (refl, rest (J ++ (let e : Entry = record { by = by; moment = m; deed = d } in e) ∷ []))
 

@@ -73,11 +73,12 @@ IsToldAt s J c (Err (Refused r)) K = IsRefusedAt s J c r × (K ≡ J)
 IsToldAt s J c (Err Worn) K = K ≡ J
 
 -- the same at a history that a coordinator can have, as it can have the one after it
-pub record IsGivenAt (s : Setting) (J : History) (c : Call) (reply : Result Told CounterFault) (K : History) : Type 0 where
-  pub keepable : AreKeepable s.limits
-  pub lawful : IsLawful (terms_of s) J
-  pub told : IsToldAt (terms_of s) J c reply K
-  pub left : IsLawful (terms_of s) K
+pub record IsGivenAt (s : Setting) (J : History) (c : Call) (reply : Result Told CounterFault) (K : History) : Type 0
+  where
+    pub keepable : AreKeepable s.limits
+    pub lawful : IsLawful (terms_of s) J
+    pub told : IsToldAt (terms_of s) J c reply K
+    pub left : IsLawful (terms_of s) K
 
 -- the entries under a number, in their order
 abbrev pub entries_under : ℕ → History → History
@@ -100,13 +101,15 @@ pub record IsSameCounter (before after : Sight) : Type 0 where
   pub number : after.number ≡ before.number
 
 -- what each counter keeps: an order is given once, at a history that begins with all that the counter had seen
-pub record KeepsHistory (before : Sight) (moment : ℕ) (o : Order) (reply : Result Told CounterFault) (after : Sight) : Type 0 where
+pub record KeepsHistory (before : Sight) (moment : ℕ) (o : Order) (reply : Result Told CounterFault)
+    (after : Sight) : Type 0 where
   pub same : IsSameCounter before after
   pub seen : IsSeenAfter before.setting before.seen (call_of before.number moment o) reply after.seen
 
 -- what a counter of its own keeps, where nobody else writes: the order is given at the very history that it has seen,
 -- and it is never worn
-pub record OwnsHistory (before : Sight) (moment : ℕ) (o : Order) (reply : Result Told CounterFault) (after : Sight) : Type 0 where
+pub record OwnsHistory (before : Sight) (moment : ℕ) (o : Order) (reply : Result Told CounterFault)
+    (after : Sight) : Type 0 where
   pub same : IsSameCounter before after
   pub given : IsGivenAt before.setting before.seen (call_of before.number moment o) reply after.seen
   pub fresh : reply ≢ Err Worn
@@ -147,7 +150,8 @@ added_by s J c (Err fault) = []
 
 -- under the clerk's number stand the entries from before, and then what the order adds at a history that begins with
 -- all that was seen: once, and nothing else
-pub record WritesOnce (before : Sight) (moment : ℕ) (o : Order) (reply : Result Told CounterFault) (after : Sight) : Type 0 where
+pub record WritesOnce (before : Sight) (moment : ℕ) (o : Order) (reply : Result Told CounterFault)
+    (after : Sight) : Type 0 where
   pub met : History
   pub begins : IsPrefix before.seen met
   pub written : entries_under before.number after.seen ≡ entries_under before.number before.seen

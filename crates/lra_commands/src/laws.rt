@@ -1,7 +1,13 @@
 //! Laws of coordinators: public functions that do nothing, whose contracts say what holds whatever commands are given.
 
 ghost use Rattle.lra_commands.specs.Counters.{CountersTell, CountersWriteOnce};
-ghost use Rattle.lra_commands.specs.Queries.{CommandsAsk, ListingsAreCountedWhole, ListingsAreToldWhole, QueriesMiss, RowsHoldEnds};
+ghost use Rattle.lra_commands.specs.Queries.{
+  CommandsAsk,
+  ListingsAreCountedWhole,
+  ListingsAreToldWhole,
+  QueriesMiss,
+  RowsHoldEnds,
+};
 ghost use Rattle.lra_commands.specs.Runs.{CallsKeepHistories, CallsLeaveQuiet, CallsMakeHistories};
 
 /// Whatever commands are given to a coordinator, by any clerks, at any moments and in any order, refused ones among

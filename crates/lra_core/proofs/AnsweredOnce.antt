@@ -84,7 +84,8 @@ answered v n J by m (deed.Reply i o) l k h = one (i == n) refl
         let more = ap (λ (ns : List ℕ). length ns) (asks_push J e) ∙ length-append (asks J) [] in
         record {
           most = omega (arith, count, none);
-          standing = λ x. let bad = sym (after ∙ ap (λ (b : Bool). unwrap_or (when b false) (is_outstanding J n)) g) ∙ x in absurd cc;
+          standing = λ x. let bad = sym (after ∙ ap (λ (b : Bool). unwrap_or (when b false) (is_outstanding J n)) g)
+              ∙ x in absurd cc;
           unmade = λ x. absurd (omega (arith, x, more, made.1));
         }
 answered v n J by m (deed.Ask i p kind) l k h =

@@ -103,7 +103,8 @@ end_replies kind direction bytes (Some all) (Some rest) code body outcome e h cl
 pub end_refuses : (bytes : List ℕ) (old : Option (List ℕ)) (fault : WireFault) → old ≡ Some bytes
     → IfSome old (λ all. RefusesResponse all fault) → RefusesResponse bytes fault
 end_refuses bytes None fault e h = absurd cc
-end_refuses bytes (Some all) fault e h = let same : all ≡ bytes = cc in subst (λ (bs : List ℕ). RefusesResponse bs fault) same h
+end_refuses bytes (Some all) fault e h = let same : all ≡ bytes = cc in
+    subst (λ (bs : List ℕ). RefusesResponse bs fault) same h
 
 -- what is open awaits more
 pub open_here : (bytes : List ℕ) (wanted : ℕ) → IsOpen bytes wanted → AwaitsResponse bytes × (length bytes < 1048576)

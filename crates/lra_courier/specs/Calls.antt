@@ -30,7 +30,8 @@ Lacks gives d address (Reply fault) = ⊥
 
 -- a request and its response came to this over the connection that was had, whose bytes are those that come once the
 -- request went out
-pub record CallsOver {D S : Type 0} (gives : Giving D S) (contents remaining : S → Option (List ℕ)) (d : D) (c : Calling) (told : Result Outcome CallFault) : Type 0 where
+pub record CallsOver {D S : Type 0} (gives : Giving D S) (contents remaining : S → Option (List ℕ)) (d : D)
+    (c : Calling) (told : Result Outcome CallFault) : Type 0 where
   pub stream : S
   pub sent : S
   pub reached : Reaches gives d c.address stream
@@ -44,7 +45,8 @@ Calls gives contents remaining d c told =
     ⊎ CallsOver gives contents remaining d c told
 
 -- an outcome for an ask of this number and kind: it suits the kind, and came of a call for an errand of that ask
-pub record Carries {D S : Type 0} (gives : Giving D S) (contents remaining : S → Option (List ℕ)) (ask : ℕ) (kind : AskKind) (outcome : Outcome) : Type 0 where
+pub record Carries {D S : Type 0} (gives : Giving D S) (contents remaining : S → Option (List ℕ)) (ask : ℕ)
+    (kind : AskKind) (outcome : Outcome) : Type 0 where
   pub suits : outcome_suits kind outcome ≡ true
   pub dialler : D
   pub errand : Asking

@@ -1,5 +1,20 @@
 //! A callback as steps over bytes.
-ghost use Rattle.std.specs.Prelude.{◌≡◌, ◌≢◌, ◌≤◌, ℕ, List, false, drop, length, option_map, Err, IfOk, IfErr, IfSome, IsTrue};
+ghost use Rattle.std.specs.Prelude.{
+  ◌≡◌,
+  ◌≢◌,
+  ◌≤◌,
+  ℕ,
+  List,
+  false,
+  drop,
+  length,
+  option_map,
+  Err,
+  IfOk,
+  IfErr,
+  IfSome,
+  IsTrue,
+};
 ghost use Rattle.std.specs.Result.{result_unwrap_or};
 ghost use Rattle.lra_model.specs.declared.asks.Outcome.{Outcome};
 ghost use Rattle.lra_model.specs.Words.{outcome_suits};

@@ -195,7 +195,9 @@ pub IsIndex-changed : (asks asks' : ℕ) (rows : List MemberRow) (p : ℕ) (befo
     → IsIndex asks' (with_row p now rows) g
 IsIndex-changed asks asks' rows p before now f g ok more there step = record {
   found = λ m q e. elim (bool_cases (stands_as m now)) [
-    | inl is_now ↦ let same : p ≡ q = same_Some p q (sym (at_now m is_now) ∙ e) in subst (λ (k : ℕ). Holds (with_row p now rows) m k) same (rw (row_at-with_row_same p rows before now there) is_now)
+    | inl is_now ↦ let same : p ≡ q = same_Some p q (sym (at_now m is_now) ∙ e) in
+        subst (λ (k : ℕ). Holds (with_row p now rows) m k) same
+        (rw (row_at-with_row_same p rows before now there) is_now)
     | inr not_now ↦ elim (bool_cases (stands_as m before)) [
       | inl was_before ↦ absurd (none-some q (sym (at_before m not_now was_before) ∙ e))
       | inr not_before ↦ elsewhere m q not_before (ok.found m q (sym (at_rest m not_now not_before) ∙ e))
@@ -204,13 +206,14 @@ IsIndex-changed asks asks' rows p before now f g ok more there step = record {
   all = λ m q h. elim (cases_eq q p) [
     | inl same ↦ at_now m (rw (row_at-with_row_same p rows before now there) at
         (subst (λ (k : ℕ). Holds (with_row p now rows) m k) same h)) ∙ ap Some (sym same)
-    | inr apart ↦ let held : Holds rows m q = (rw (row_at-with_row_other p rows now q apart) at h) in elim (bool_cases (stands_as m now)) [
-      | inl is_now ↦ absurd (apart (step.free m q is_now (ok.all m q held)))
-      | inr not_now ↦ elim (bool_cases (stands_as m before)) [
-        | inl was_before ↦ absurd (apart (same_Some q p (sym (ok.all m q held) ∙ ok.all m p (rw there was_before))))
-        | inr not_before ↦ at_rest m not_now not_before ∙ ok.all m q held
-      ]
-    ]
+    | inr apart ↦ let held : Holds rows m q = (rw (row_at-with_row_other p rows now q apart) at h) in
+        elim (bool_cases (stands_as m now)) [
+          | inl is_now ↦ absurd (apart (step.free m q is_now (ok.all m q held)))
+          | inr not_now ↦ elim (bool_cases (stands_as m before)) [
+            | inl was_before ↦ absurd (apart (same_Some q p (sym (ok.all m q held) ∙ ok.all m p (rw there was_before))))
+            | inr not_before ↦ at_rest m not_now not_before ∙ ok.all m q held
+          ]
+        ]
   ];
   made = λ m q e. elim (bool_cases (stands_as m now)) [
     | inl is_now ↦ step.made m is_now
@@ -321,7 +324,9 @@ IsIndex-pushed asks rows r f ok unasked = record {
   found = λ m q e. still m q (row_at rows q) refl (ok.found m q e);
   all = λ m q h. elim (row_at-push rows r q) [
     | inl old ↦ ok.all m q (rw old at h)
-    | inr new ↦ absurd (let none : stands_as m r ≡ false = ap (λ (o : Option Standing). option_map_or (λ (x : Standing). eqb x.number m) o false) unasked in let some : stands_as m r ≡ true = (rw new at h) in cc)
+    | inr new ↦ absurd (let none : stands_as m r ≡ false = ap
+        (λ (o : Option Standing). option_map_or (λ (x : Standing). eqb x.number m) o false) unasked in
+        let some : stands_as m r ≡ true = (rw new at h) in cc)
   ];
   made = ok.made;
 }

@@ -60,7 +60,8 @@ row_at-mark m a t places = at_place (row_at places a) refl
           | inl same ↦
               ap (row_at (with_row a (option_or x (Some m)) places)) (sym same)
               ∙ row_at-with_row_same a places x (option_or x (Some m)) e
-              ∙ sym (ap (λ (o : Option (Option ℕ)). option_map (marked m (a == t)) o) (ap (row_at places) (sym same) ∙ e)
+              ∙ sym (ap (λ (o : Option (Option ℕ)). option_map (marked m (a == t)) o)
+              (ap (row_at places) (sym same) ∙ e)
               ∙ ap (λ (b : Bool). option_map (marked m b) (Some x)) (eq-eqb a t same))
           | inr apart ↦
               row_at-with_row_other a places (option_or x (Some m)) t (λ h. apart (sym h))
@@ -81,7 +82,8 @@ abbrev pub parent_by : List ActionRow → ℕ → Option ℕ
 parent_by rows a = option_map_or (λ (r : ActionRow). r.parent) (row_at rows a) None
 
 -- what is left of a walk of so many steps from an action up, is what there was to do
-pub record IsLeft (m : ℕ) (rows : List ActionRow) (done steps action : ℕ) (start : List (Option ℕ)) (above : ℕ) (places : List (Option ℕ)) : Type 0 where
+pub record IsLeft (m : ℕ) (rows : List ActionRow) (done steps action : ℕ) (start : List (Option ℕ)) (above : ℕ)
+    (places : List (Option ℕ)) : Type 0 where
   pub left : ℕ
   pub sum : done + left ≡ steps
   pub rest : (t : ℕ) → option_map (marked m (is_within_by left rows t above)) (row_at places t)
@@ -323,7 +325,8 @@ AreLessTo-more rows i d low h all a b within e = elim (cases_eq a (i + 1)) [
   where
     passes : (o : Option ℕ) → option_map_or (λ c. nat_lt c (i + 1)) o true ≡ true → o ≡ Some b → b < i + 1
     passes None k f = absurd cc
-    passes (Some c) k f = let same : c ≡ b = same_Some c b f in let low : c < i + 1 = ltb-true c (i + 1) k in omega arith
+    passes (Some c) k f = let same : c ≡ b = same_Some c b f in let low : c < i + 1 = ltb-true c (i + 1) k in
+        omega arith
 
 pub AreLessTo-end : (rows : List ActionRow) (i : ℕ) → length rows ≤ i → AreLessTo rows i → AreLess rows
 AreLessTo-end rows i h all a b e = elim (cases_lt i a) [

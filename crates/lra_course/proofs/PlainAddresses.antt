@@ -93,7 +93,8 @@ split_path fresh (b ∷ xs) h = elim (cases_Bool (b == 47)) [
         others = later.others;
         joined = ap (λ l. b ∷ l) later.joined;
         plain = All-cons (Passes is_path_byte) b later.first both.0 later.plain;
-        undotted = λ e. no_dot b later.first both.0 (let undotted : not (b == 46) ≡ true = (rw e at both.1) in not-true _ undotted);
+        undotted = λ e. no_dot b later.first both.0 (let undotted : not (b == 46) ≡ true = (rw e at both.1) in
+            not-true _ undotted);
         each = later.each;
       }
 ]
@@ -161,8 +162,24 @@ last_named fresh (b ∷ xs) h = elim (cases_Bool (b == 46)) [
 
     step_name : (front : Option (List ℕ)) (back : List ℕ) → (b == 46) ≡ false → not (fresh && not (is_letter b)) ≡ true
         → LastNamed false (front, back) → LastNamed fresh (rsplit_step 46 b front back)
-    step_name (Some front) back other named later = inr ((b ∷ front, refl), elim later [ inl none ↦ absurd (let no : Some front ≡ None = none.0 in cc) | inr some ↦ some.1 ])
-    step_name None back other named later = rw other (inl (refl, λ e. record { letter = b; others = back; begins = refl; is_one = let is : not (not (is_letter b)) ≡ true = (rw e at named) in not-false _ (not-true _ is) }))
+    step_name (Some front) back other named later = inr (
+      (b ∷ front, refl),
+      elim later [
+        | inl none ↦ absurd (let no : Some front ≡ None = none.0 in cc)
+        | inr some ↦
+            some.1
+      ],
+    )
+    step_name None back other named later = rw other
+        (inl (
+          refl,
+          λ e. record {
+            letter = b;
+            others = back;
+            begins = refl;
+            is_one = let is : not (not (is_letter b)) ≡ true = (rw e at named) in not-false _ (not-true _ is);
+          },
+        ))
 
 letter_no_digit : (b : ℕ) → is_letter b ≡ true → (is_ascii_digit b ≡ false) × (is_digit b 10 ≡ false)
     × ((b == 48) ≡ false)

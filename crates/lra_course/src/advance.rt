@@ -1,6 +1,24 @@
 //! One more entry after the history.
 
-ghost use Rattle.std.specs.Prelude.{◌≡◌, true, ◌+◌, ◌<◌, ◌^◌, ◌++◌, ◌∷◌, [], ℕ, length, Some, None, OnOk, OnErr, nat_eq, ◌==◌, cond};
+ghost use Rattle.std.specs.Prelude.{
+  ◌≡◌,
+  true,
+  ◌+◌,
+  ◌<◌,
+  ◌^◌,
+  ◌++◌,
+  ◌∷◌,
+  [],
+  ℕ,
+  length,
+  Some,
+  None,
+  OnOk,
+  OnErr,
+  nat_eq,
+  ◌==◌,
+  cond,
+};
 ghost use Rattle.std.specs.Option.{option_map_or};
 ghost use Rattle.std.specs.HashMap.{get};
 ghost use Rattle.lra_model.specs.declared.entry.Deed.TheVariants as deeds;

@@ -3,7 +3,15 @@
 ghost use Rattle.std.specs.Prelude.{◌≡◌, ◌≢◌, ◌++◌, ℕ, List, Some, true, codes, MatchOption};
 ghost use Rattle.std.specs.Fmt.{decimal};
 ghost use Rattle.lra_ids.specs.Addresses.{is_address};
-ghost use Rattle.lra_course.specs.inner.Plain.{is_letter, is_name_byte, is_path_byte, is_host, is_path, IsPort, IsAuthority};
+ghost use Rattle.lra_course.specs.inner.Plain.{
+  is_letter,
+  is_name_byte,
+  is_path_byte,
+  is_host,
+  is_path,
+  IsPort,
+  IsAuthority,
+};
 
 use lra_entries::{read_number, split_once};
 
@@ -72,7 +80,8 @@ fn is_path(bytes: &[u8]) -> bool
 
 /// Returns what stands behind the scheme.
 fn after_scheme(text: &[u8]) -> Option<&[u8]>
-    ensures { MatchOption result ((rest : List ℕ) → text.now ≢ codes "http://" ++ rest) (λ rest. text.now ≡ codes "http://" ++ rest.now) }
+    ensures { MatchOption result ((rest : List ℕ) → text.now ≢ codes "http://" ++ rest)
+        (λ rest. text.now ≡ codes "http://" ++ rest.now) }
 {
     text.strip_prefix(b"http://")
 }

@@ -1,6 +1,21 @@
 //! The summary of a history, from its rows.
 
-ghost use Rattle.std.specs.Prelude.{◌≡◌, ◌<◌, ◌≤◌, ℕ, IfOk, Some, None, true, false, cond, count_by, nat_lt, option_map, unwrap_or};
+ghost use Rattle.std.specs.Prelude.{
+  ◌≡◌,
+  ◌<◌,
+  ◌≤◌,
+  ℕ,
+  IfOk,
+  Some,
+  None,
+  true,
+  false,
+  cond,
+  count_by,
+  nat_lt,
+  option_map,
+  unwrap_or,
+};
 ghost use Rattle.std.specs.Option.{option_map_or, option_or};
 ghost use Rattle.lra_model.specs.Words as words;
 ghost use Rattle.lra_laws.specs.Rows.{State, change_row, is_unended};

@@ -177,7 +177,8 @@ module _ {S : Type 0} (name : S → ℕ) where
   pub there_named : (i : ℕ) (ss : List S) (s : S) → member name i ss ≡ Some s → name s ≡ i
   there_named i [] s k = absurd cc
   there_named i (t ∷ ss) s k = elim (eqb_tells (name t) i) [
-    | inl e ↦ (let j : Some t ≡ Some s = sym (member-here name i t ss e.1) ∙ k in let same : t ≡ s = cc in ap name (sym same) ∙ e.1)
+    | inl e ↦ (let j : Some t ≡ Some s = sym (member-here name i t ss e.1) ∙ k in let same : t ≡ s = cc in
+        ap name (sym same) ∙ e.1)
     | inr e ↦ there_named i ss s (sym (member-there name i t ss e.1) ∙ k)
   ]
 

@@ -38,7 +38,8 @@ module _ (gives : Sight → ℕ → Order → Result Told CounterFault → Sight
       let Q : ℕ → Type 0 = λ j. MovesAt name j ss (λ s t. Does gives s turn t) (Lacks turn) ts in
       subst Q is (moves_map name i ss ts _ _ _ _ (λ s t named m. does_some s t turn turn.answer refl m) (λ l. l) h)
 
-  module _ (keeps : (before after : Sight) (moment : ℕ) (o : Order) (reply : Result Told CounterFault) → gives before moment o reply after → KeepsHistory before moment o reply after) where
+  module _ (keeps : (before after : Sight) (moment : ℕ) (o : Order) (reply : Result Told CounterFault)
+      → gives before moment o reply after → KeepsHistory before moment o reply after) where
     pub keeps_name : (s : Sight) (turn : Turn) (t : Sight) → Does gives s turn t → name t ≡ name s
     keeps_name s turn t d = ap (λ c. c.instance) (keeps s t turn.request.giving.moment turn.request.giving.order d.0
         d.1).same.setting

@@ -124,7 +124,8 @@ module _ {C : Type 0} (sight : C → Sight) (covers : C → ℕ → Bool) (gives
 
   unnamed : (ss ts : List Sight) (turn : ConnectionTurn) (i n : ℕ) → i ≡ n → member name i ss ≡ None → Hit n turn ss
       ts → ⊥
-  unnamed ss ts turn i n is none k = let both : Some k.old ≡ None = sym k.there ∙ ap (λ m. member name m ss) (sym is) ∙ none in cc
+  unnamed ss ts turn i n is none k = let both : Some k.old ≡ None = sym k.there ∙ ap (λ m. member name m ss) (sym is)
+      ∙ none in cc
 
   by_newest : (ss ts : List Sight) (turn : ConnectionTurn) (i n : ℕ) → n < 2 ^ 60 → i ≡ unwrap_or (instance_of
       turn.request) n → member name i ss ≡ None → Hit n turn ss ts

@@ -158,7 +158,8 @@ begin_put base i t (s ∷ ss) e h = (have_put base i t (s ∷ ss) e h.0, by (nam
   by false = h.1
 
 module _ (gives : Sight → ℕ → Order → Result Told CounterFault → Sight → Type 0)
-    (keeps : (before after : Sight) (moment : ℕ) (o : Order) (reply : Result Told CounterFault) → gives before moment o reply after → KeepsHistory before moment o reply after) where
+    (keeps : (before after : Sight) (moment : ℕ) (o : Order) (reply : Result Told CounterFault)
+    → gives before moment o reply after → KeepsHistory before moment o reply after) where
   -- the URIs go on to begin so
   pub serves_base : (base : List ℕ) (before after : List Sight) (turn : Turn) → IsFamily (map name before)
       → HaveBase base before → Serves gives before turn after

@@ -1,6 +1,23 @@
 //! A family whose members join and leave, as one that answers.
 
-ghost use Rattle.std.specs.Prelude.{◌≡◌, ◌≢◌, ℕ, true, false, List, map, unwrap_or, IfErr, IfNone, IfSome, IsSome, OnErr, OnOk, IsFalse, IsTrue};
+ghost use Rattle.std.specs.Prelude.{
+  ◌≡◌,
+  ◌≢◌,
+  ℕ,
+  true,
+  false,
+  List,
+  map,
+  unwrap_or,
+  IfErr,
+  IfNone,
+  IfSome,
+  IsSome,
+  OnErr,
+  OnOk,
+  IsFalse,
+  IsTrue,
+};
 ghost use Rattle.std.proofs.Props.{props};
 ghost use Rattle.lra_family.specs.Counted.{name};
 ghost use Rattle.lra_commands.specs.declared.refusal.Refusal.TheVariants as reason;

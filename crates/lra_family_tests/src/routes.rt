@@ -8,7 +8,8 @@ use lra_steps::Answered;
 use lra_wire::{RequestFields, RequestRead};
 use std::alloc::Global;
 
-/// A request and its body, the word of its denial, and how many orders the older and the newer member are given, between `|`. The
+/// A request and its body, the word of its denial, and how many orders the older and the newer member are given,
+/// between `|`. The
 /// instances end in 0-8007 and 1-8007; of 1-8008 there is none.
 const ROWS: &str = r###"POST /lra-coordinator||Worn|0 1
 POST /lra-coordinator|{"limit":5}|Worn|0 1

@@ -64,7 +64,8 @@ abbrev pub status_of : Tally → ℕ
 status_of t = if nat_lt 0 t.unread then 2 else (if nat_lt 0 t.unsound then 1 else 0)
 
 -- the journals of these names, whose bytes are those, were audited one after another; then the counts were written
-pub record AuditsAll (bytes : List ℕ → List ℕ) (folder : List ℕ) (names : List (List ℕ)) (before after : Option (List ℕ)) (told : List ℕ) (status : ℕ) : Type 0 where
+pub record AuditsAll (bytes : List ℕ → List ℕ) (folder : List ℕ) (names : List (List ℕ))
+    (before after : Option (List ℕ)) (told : List ℕ) (status : ℕ) : Type 0 where
   pub last : Progress
   pub each : AuditsEach bytes folder names (at_first before) last
   pub counts : Appends last.written after (totals_line last.tally)
@@ -104,7 +105,8 @@ TellsEach deed bytes folder (name ∷ names) p q =
 
 -- what is told of the journals of these names, whose bytes are those, was written one after another; then the counts
 -- were
-pub record TellsAll (deed : Deed) (bytes : List ℕ → List ℕ) (folder : List ℕ) (names : List (List ℕ)) (before after : Option (List ℕ)) (told : List ℕ) (status : ℕ) : Type 0 where
+pub record TellsAll (deed : Deed) (bytes : List ℕ → List ℕ) (folder : List ℕ) (names : List (List ℕ))
+    (before after : Option (List ℕ)) (told : List ℕ) (status : ℕ) : Type 0 where
   pub last : Progress
   pub each : TellsEach deed bytes folder names (at_first before) last
   pub counts : Appends last.written after (totals_line last.tally)

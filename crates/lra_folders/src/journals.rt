@@ -1,10 +1,38 @@
 //! Audits and listings of the journals of a folder, by their names.
 
-ghost use Rattle.std.specs.Prelude.{◌≡◌, ◌+◌, ◌-◌, ◌<◌, ◌≤◌, ◌^◌, ◌++◌, ℕ, List, Option, Some, IfOk, OnOk, codes, length, string_bytes};
+ghost use Rattle.std.specs.Prelude.{
+  ◌≡◌,
+  ◌+◌,
+  ◌-◌,
+  ◌<◌,
+  ◌≤◌,
+  ◌^◌,
+  ◌++◌,
+  ℕ,
+  List,
+  Option,
+  Some,
+  IfOk,
+  OnOk,
+  codes,
+  length,
+  string_bytes,
+};
 ghost use Rattle.lra_words.specs.Asked.{texts};
 ghost use Rattle.lra_folders.specs.declared.deed.Deed.{Deed};
 ghost use Rattle.lra_folders.specs.declared.deed.Deed.TheVariants as deeds;
-ghost use Rattle.lra_folders.specs.Folders.{path_of, behind, counted_as, TellsNext, TellsEach, TellsAll, AuditsAll, verdicts_counted, totals_line, status_of};
+ghost use Rattle.lra_folders.specs.Folders.{
+  path_of,
+  behind,
+  counted_as,
+  TellsNext,
+  TellsEach,
+  TellsAll,
+  AuditsAll,
+  verdicts_counted,
+  totals_line,
+  status_of,
+};
 ghost use Rattle.lra_folders.specs.inner.Told.{IsTold, AllTold};
 
 use crate::deed::{Deed, Told};

@@ -1,6 +1,20 @@
 //! Journals that are gone through side by side.
 
-ghost use Rattle.std.specs.Prelude.{◌≡◌, ◌<◌, ◌≤◌, List, ℕ, String, Some, IfOk, get_or, length, slice_index_or, string_bytes, vec_len};
+ghost use Rattle.std.specs.Prelude.{
+  ◌≡◌,
+  ◌<◌,
+  ◌≤◌,
+  List,
+  ℕ,
+  String,
+  Some,
+  IfOk,
+  get_or,
+  length,
+  slice_index_or,
+  string_bytes,
+  vec_len,
+};
 ghost use Rattle.std.specs.Global.{Global};
 ghost use Rattle.lra_folders.specs.Folders.{IsOpened};
 ghost use Rattle.lra_folders.specs.inner.Told.{IsToldOf, AllTold};

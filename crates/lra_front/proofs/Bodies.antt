@@ -34,7 +34,8 @@ none_named text (Some e) found only = only e found
 pub ending_is : (text : List ℕ) (r : Option Ending) → IfSome r (λ e. text ≡ ending_name e)
     → ((e : Ending) → text ≡ ending_name e → r ≡ Some e)
     → r ≡ ending_named text
-ending_is text (Some e) found only = let P : List ℕ → Type 0 = λ t. Some e ≡ ending_named t in subst P (sym found) (itself e)
+ending_is text (Some e) found only = let P : List ℕ → Type 0 = λ t. Some e ≡ ending_named t in
+    subst P (sym found) (itself e)
 ending_is text None found only = none_named text (ending_named text) (found_by_name ending_name endings text) only
 
 -- ---- the object that a body is
@@ -102,7 +103,8 @@ found_other body d some text e is = object_ok body d some text e ∙ none_of (as
 
 pub unread : (r : Operation) (b : List ℕ) (v : Value) → reads_body r ≡ false → view v ≡ object no_members
     → ReadsBody r b (Ok v)
-unread r b v e is = let blank = body_unread r b e in (blank ∙ rw is refl, some_of (body_of r b) (Some no_members) blank refl)
+unread r b v e is = let blank = body_unread r b e in
+    (blank ∙ rw is refl, some_of (body_of r b) (Some no_members) blank refl)
 
 pub read_denied : (r : Operation) (b : List ℕ) (d : Denial) → reads_body r ≡ true → ReadsObject b (Err d)
     → ReadsBody r b (Err d)

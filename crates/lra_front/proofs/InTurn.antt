@@ -15,7 +15,8 @@ use Rattle.lra_front.specs.Transcripts.{Turn, Chain, IsAdded, AreAdded, AreWritt
 
 module _ (K : Type 0) (gives : Sight → ℕ → Order → Result Told CounterFault → Sight → Type 0)
     (tells : K → ℕ → K → Type 0)
-    (keeps : (before after : Sight) (moment : ℕ) (o : Order) (reply : Result Told CounterFault) → gives before moment o reply after → KeepsHistory before moment o reply after) where
+    (keeps : (before after : Sight) (moment : ℕ) (o : Order) (reply : Result Told CounterFault)
+    → gives before moment o reply after → KeepsHistory before moment o reply after) where
   -- what one request adds, and that its clerk keeps its number
   one_added : (v : Sight) (moment : ℕ) (w : Result Wish Denial) (u : Sight) (a : Answer) (h : Does gives v moment w u a)
       → (added : History) × IsAdded gives tells v moment w u a h added × (u.number ≡ v.number)

@@ -76,7 +76,8 @@ cut_by : (v : Sight) (old new : Option (List ℕ)) (end : StreamEnd) → Denies 
 cut_by v old new Done h = absurd h
 cut_by v old new (Refused fault) h = ap Refused h.0
 cut_by v old new WriteFault (front, rest, whole, long, wrote) =
-    absurd (let len = length-append front rest in let e : 0 ≡ length (front ++ rest) = ap length whole in omega (arith, len, e, long))
+    absurd (let len = length-append front rest in let e : 0 ≡ length (front ++ rest) = ap length whole in
+    omega (arith, len, e, long))
 
 -- two results of reading are one
 abbrev Same : Result (Option RequestRead) WireFault → Result (Option RequestRead) WireFault → Type 0
@@ -92,7 +93,8 @@ cut_ends v old new end fault e h =
 
 -- ---- one request after another
 
-module _ {K : Type 0} (gives : Sight → ℕ → Order → Result Told CounterFault → Sight → Type 0) (tells : K → ℕ → K → Type 0) where
+module _ {K : Type 0} (gives : Sight → ℕ → Order → Result Told CounterFault → Sight → Type 0)
+    (tells : K → ℕ → K → Type 0) where
   pub ends_now : (n : ℕ) (s t : Standing K) (end : StreamEnd) → 0 < n → EndsAt gives tells false s end t
       → ServesUpTo gives tells n s end t
   unfolding ServesUpTo

@@ -26,7 +26,8 @@ known_next : (o p : Option (List ℕ)) (bytes : List ℕ) (P : List ℕ → List
     → IfBothKnown o p P → (ys : List ℕ) × (p ≡ Some ys) × P bytes ys
 known_next None p bytes P e h = absurd cc
 known_next (Some xs) None bytes P e h = absurd h
-known_next (Some xs) (Some ys) bytes P e h = let Q : List ℕ → Type 0 = λ zs. P zs ys in (ys, refl, subst Q (same_bytes xs bytes e) h)
+known_next (Some xs) (Some ys) bytes P e h = let Q : List ℕ → Type 0 = λ zs. P zs ys in
+    (ys, refl, subst Q (same_bytes xs bytes e) h)
 
 appended : (o p : Option (List ℕ)) (old text : List ℕ) → o ≡ Some old → Appends o p text → p ≡ Some (old ++ text)
 appended None p old text e h = absurd cc
@@ -71,7 +72,8 @@ before_more n turn (next ∷ turns) goes h = (goes, h)
 
 module _ (K : Type 0) (gives : Sight → ℕ → Order → Result Told CounterFault → Sight → Type 0)
     (tells : K → ℕ → K → Type 0)
-    (keeps : (before after : Sight) (moment : ℕ) (o : Order) (reply : Result Told CounterFault) → gives before moment o reply after → KeepsHistory before moment o reply after) where
+    (keeps : (before after : Sight) (moment : ℕ) (o : Order) (reply : Result Told CounterFault)
+    → gives before moment o reply after → KeepsHistory before moment o reply after) where
   pub same_setting : (v u : Sight) (m : ℕ) (r : Request) (a : Answer) → Responds gives v m r u a → u.setting ≡ v.setting
   same_setting v u m r a (Ok w, asks, h) = (keeps v u m h.order h.reply h.given).same.setting
   same_setting v u m r a (Err d, asks, h) = ap (λ x. x.setting) h.1

@@ -63,7 +63,8 @@ abbrev pub reply_to : Sight → Bool → Request → Answer → List ℕ
 reply_to v last request a = reply_bytes v.setting.instance v.setting.base a (is_head request)
     (closes_after last request)
 
-module _ {K : Type 0} (gives : Sight → ℕ → Order → Result Told CounterFault → Sight → Type 0) (tells : K → ℕ → K → Type 0) where
+module _ {K : Type 0} (gives : Sight → ℕ → Order → Result Told CounterFault → Sight → Type 0)
+    (tells : K → ℕ → K → Type 0) where
   -- a request is read, the clock tells the moment, and one order at most is given; whatever becomes of the reply
   pub record Exchange (s t : Standing K) (request : Request) (a : Answer) : Type 0 where
     pub read : IfBothKnown s.bytes t.bytes (λ xs ys. IsRequest xs request ys)
@@ -98,7 +99,8 @@ module _ {K : Type 0} (gives : Sight → ℕ → Order → Result Told CounterFa
     pub wrote : Keeps s.out t.out
 
   -- no request is read, for that fault, and this went out of the reply to it
-  pub record Faulted (Wrote : Option (List ℕ) → Option (List ℕ) → List ℕ → Type 0) (s t : Standing K) (fault : WireFault) : Type 0 where
+  pub record Faulted (Wrote : Option (List ℕ) → Option (List ℕ) → List ℕ → Type 0) (s t : Standing K)
+      (fault : WireFault) : Type 0 where
     pub read : IfSome s.bytes (λ bytes. RefusesRequest bytes fault)
     pub rests : Rests s t
     pub wrote : Wrote s.out t.out (fault_text s.sight fault)

@@ -82,7 +82,8 @@ EndsAfter c n turns rest out WriteFault =
     ⊎ ((fault : WireFault) × IsFront out (replies c n turns ++ fault_bytes c fault) × RefusesRequest rest fault
     × StaysOpen n turns)
 
-module _ {K : Type 0} (gives : Sight → ℕ → Order → Result Told CounterFault → Sight → Type 0) (tells : K → ℕ → K → Type 0) where
+module _ {K : Type 0} (gives : Sight → ℕ → Order → Result Told CounterFault → Sight → Type 0)
+    (tells : K → ℕ → K → Type 0) where
   -- one turn after another: the clock tells its moment, and its request does what it does at the counter
   abbrev pub Chain : Sight → K → List Turn → Sight → K → Type 0
   Chain v k [] w l = (w ≡ v) × (l ≡ k)

@@ -1,6 +1,24 @@
 //! The answer to a request, and the reply that tells it.
 
-ghost use Rattle.std.specs.Prelude.{◌≡◌, ◌+◌, ◌≤◌, ◌++◌, if◌then◌else◌, ℕ, List, [], map, length, decimal, vec_len, vec_capacity, IfOk, IsTrue, string_bytes, Err};
+ghost use Rattle.std.specs.Prelude.{
+  ◌≡◌,
+  ◌+◌,
+  ◌≤◌,
+  ◌++◌,
+  if◌then◌else◌,
+  ℕ,
+  List,
+  [],
+  map,
+  length,
+  decimal,
+  vec_len,
+  vec_capacity,
+  IfOk,
+  IsTrue,
+  string_bytes,
+  Err,
+};
 ghost use Rattle.std.specs.Ordering.{nat_cmp};
 ghost use Rattle.std.specs.declared.cmp.Ordering.TheVariants.{Greater};
 ghost use Rattle.std.specs.Cmp.Lexicographic.{slice_cmp};

@@ -64,7 +64,8 @@ pub id_low : {E : Type 0} (r : Result (List ℕ) E) (id : List ℕ) (low instanc
     → Some id ≡ result_ok r
     → low ≡ from_be_bytes w128 id % 2 ^ 64 → instance < 2 ^ 60 → n < 2 ^ 62 → low % 2 ^ 62 ≡ n
 id_low r id low instance n read found is_low is_instance is_number =
-    let same : id ≡ id_bytes instance n = let some : Some id ≡ Some (id_bytes instance n) = found ∙ ap result_ok read in cc in
+    let same : id ≡ id_bytes instance n = let some : Some id ≡ Some (id_bytes instance n) = found ∙ ap result_ok read in
+    cc in
     ap (λ (m : ℕ). m % 2 ^ 62) (is_low ∙ ap (λ (bytes : List ℕ). from_be_bytes w128 bytes % 2 ^ 64) same)
     ∙ low-id_bytes instance n is_instance is_number
 

@@ -1,6 +1,26 @@
 //! Bases: what the URIs of a coordinator begin with.
 
-ghost use Rattle.std.specs.Prelude.{◌≡◌, true, ◌≤◌, ◌<◌, ◌^◌, ◌-◌, ◌&&◌, ◌||◌, ◌==◌, ℕ, nat_le, not, length, slice_index, codes, bytes_eq, string_bytes, IfOk, IfSome};
+ghost use Rattle.std.specs.Prelude.{
+  ◌≡◌,
+  true,
+  ◌≤◌,
+  ◌<◌,
+  ◌^◌,
+  ◌-◌,
+  ◌&&◌,
+  ◌||◌,
+  ◌==◌,
+  ℕ,
+  nat_le,
+  not,
+  length,
+  slice_index,
+  codes,
+  bytes_eq,
+  string_bytes,
+  IfOk,
+  IfSome,
+};
 ghost use Rattle.std.specs.List.{list_all, list_any};
 ghost use Rattle.url.specs.Parts.{serialize};
 ghost use Rattle.lra_ids.specs.Addresses.{url_of, is_base};

@@ -1,6 +1,23 @@
 //! The UUIDs of actions and members, and the URIs that are spelled from them.
 
-ghost use Rattle.std.specs.Prelude.{◌≡◌, ◌≢◌, ℕ, List, ◌≤◌, ◌<◌, ◌^◌, ◌++◌, Some, IsTrue, length, IfOk, IfSome, MatchOption, slice_index, string_bytes};
+ghost use Rattle.std.specs.Prelude.{
+  ◌≡◌,
+  ◌≢◌,
+  ℕ,
+  List,
+  ◌≤◌,
+  ◌<◌,
+  ◌^◌,
+  ◌++◌,
+  Some,
+  IsTrue,
+  length,
+  IfOk,
+  IfSome,
+  MatchOption,
+  slice_index,
+  string_bytes,
+};
 ghost use Rattle.uuid.specs.Uuid.{version_num};
 ghost use Rattle.uuid.specs.Parts.{variant_of};
 ghost use Rattle.uuid.specs.declared.Variant.TheVariants.{RFC4122};

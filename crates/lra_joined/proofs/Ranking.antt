@@ -111,9 +111,11 @@ closed_at (n ∷ ns) number (suc r) here first i =
     at_rank : ((j : ℕ) → cond (nat_le r j) (slice_get ns (j + 1)) (slice_get ns j) ≡ slice_get (without number ns) j)
         → (j : ℕ) → cond (nat_le (suc r) j) (slice_get (n ∷ ns) (j + 1)) (slice_get (n ∷ ns) j)
         ≡ slice_get (n ∷ without number ns) j
-    at_rank rest zero = ap (λ (b : Bool). cond b (slice_get (n ∷ ns) (0 + 1)) (Some n)) (let e : nat_le (suc r) 0 ≡ false = grind (arith, nat_tests) in e)
+    at_rank rest zero = ap (λ (b : Bool). cond b (slice_get (n ∷ ns) (0 + 1)) (Some n))
+        (let e : nat_le (suc r) 0 ≡ false = grind (arith, nat_tests) in e)
     at_rank rest (suc j) =
-        ap (λ (k : ℕ). cond (nat_le (suc r) (suc j)) (slice_get (n ∷ ns) k) (slice_get ns j)) (let e : suc j + 1 ≡ suc (j + 1) = omega arith in e)
+        ap (λ (k : ℕ). cond (nat_le (suc r) (suc j)) (slice_get (n ∷ ns) k) (slice_get ns j))
+        (let e : suc j + 1 ≡ suc (j + 1) = omega arith in e)
         ∙ ap (λ (b : Bool). cond b (slice_get ns (j + 1)) (slice_get ns j)) (le_suc r j)
         ∙ rest j
 
@@ -138,7 +140,9 @@ inside (Some x) ns place e h = slice_get_within ns place x (sym e)
 
 -- what comes next hasn't moved yet
 pub unmoved : (r p : ℕ) (f : ℕ → Option ℕ) → moved r p f (p + 1) ≡ f (p + 1)
-unmoved r p f = ap (λ (b : Bool). cond (nat_le r (p + 1) && b) (f (p + 1 + 1)) (f (p + 1))) (let e : nat_lt (p + 1) p ≡ false = grind (arith, nat_tests) in e) ∙ ap (λ (b : Bool). cond b (f (p + 1 + 1)) (f (p + 1))) (and-false (nat_le r (p + 1)))
+unmoved r p f = ap (λ (b : Bool). cond (nat_le r (p + 1) && b) (f (p + 1 + 1)) (f (p + 1)))
+    (let e : nat_lt (p + 1) p ≡ false = grind (arith, nat_tests) in e)
+    ∙ ap (λ (b : Bool). cond b (f (p + 1 + 1)) (f (p + 1))) (and-false (nat_le r (p + 1)))
 
 -- the last of those that moved is taken away
 pub taken : (m : Numbers) (new : Numbers) (digest r p : ℕ) (f : ℕ → Option ℕ) → r ≤ p

@@ -1,6 +1,32 @@
 //! Numbers by digests.
 
-ghost use Rattle.std.specs.Prelude.{◌≡◌, ℕ, ◌+◌, ◌<◌, ◌≤◌, ◌^◌, ◌==◌, ◌++◌, ◌∷◌, [], List, length, cond, Some, None, IfSome, IfNone, IsSome, MatchOption, IsOk, OnOk, slice_get, nat_eq, ◌&&◌, false};
+ghost use Rattle.std.specs.Prelude.{
+  ◌≡◌,
+  ℕ,
+  ◌+◌,
+  ◌<◌,
+  ◌≤◌,
+  ◌^◌,
+  ◌==◌,
+  ◌++◌,
+  ◌∷◌,
+  [],
+  List,
+  length,
+  cond,
+  Some,
+  None,
+  IfSome,
+  IfNone,
+  IsSome,
+  MatchOption,
+  IsOk,
+  OnOk,
+  slice_get,
+  nat_eq,
+  ◌&&◌,
+  false,
+};
 ghost use Rattle.std.specs.HashMap.{spare, Updates};
 ghost use Rattle.lra_joined.specs.Digests.{digest_of};
 ghost use Rattle.lra_joined.specs.Listed.{number_at, IsListed, IsCounted, without};

@@ -128,7 +128,9 @@ status_settled : (n by m : ℕ) (J : History) (p : ℕ) (x : MemberStatus) → m
     → member_status (J ++ settling_within n by m J) p ≡ x
 status_settled n by m J p x h stays =
     settling_keeps (λ K. member_status K p ≡ x)
-    (λ K b t d s g. let aside = settles_aside p d s in member_status_kept K (record { by = b; moment = t; deed = d }) p (ap is_decided g ∙ stays) aside.0 aside.1 ∙ g) n by m J h
+    (λ K b t d s g. let aside = settles_aside p d s in
+    member_status_kept K (record { by = b; moment = t; deed = d }) p (ap is_decided g ∙ stays) aside.0 aside.1 ∙ g)
+    n by m J h
 
 -- a status of one that is asked for an ending, and what the ending makes of it
 reported : (e : Ending) (x : MemberStatus) → judged.is_awaited x e ≡ true
@@ -198,7 +200,8 @@ told_own s J by h (command.Join a uris) d u is = fresh (already_member J a (stor
         subst (TellsBy s J (call by h (command.Join a uris))) e
         (ap (λ (x : Option ℕ). option_map_or told.AlreadyMember x (told.Member (length (members K)))) g
         ∙ ap told.Member (members_after J (entry_of J (call by h (command.Join a uris)) w) _ refl))
-told_own s J by h (command.Leave a p) d u is = let e : deed.Leave p ≡ d = cc in subst (TellsBy s J (call by h (command.Leave a p))) e refl
+told_own s J by h (command.Leave a p) d u is = let e : deed.Leave p ≡ d = cc in
+    subst (TellsBy s J (call by h (command.Leave a p))) e refl
 told_own s J by h (command.Close a) d u is =
     let g = when_holds (is_open J a) (deed.Close a cause.Client) d is in
     let c : Call = call by h (command.Close a) in
@@ -248,7 +251,8 @@ told_own s J by h command.NextAsk d u is = one (due s.limits J (max h (last_mome
         (λ p. option_map (deed.Ask n p) (wants J p)) x ≡ Some d → TellsBy s J c d
     one None g i = absurd cc
     one (Some p) g i = two p g (wants J p) i
-told_own s J by h (command.Record errand o) d u is = let e : deed.Reply errand.now.ask o ≡ d = cc in subst (TellsBy s J (call by h (command.Record errand o))) e refl
+told_own s J by h (command.Record errand o) d u is = let e : deed.Reply errand.now.ask o ≡ d = cc in
+    subst (TellsBy s J (call by h (command.Record errand o))) e refl
 told_own s J by h (command.Report p x) d u is =
     let g = when_holds (not (deeds.is_decided J p x)) (deed.Report p (outcome_told x)) d is in
     let c : Call = call by h (command.Report p x) in
@@ -262,8 +266,10 @@ told_own s J by h (command.Report p x) d u is =
     asked : (b e : Bool) → b ≡ false → (not b && not e) ≡ false → e ≡ true
     asked false e i j = not-false e j
     asked true e i j = absurd cc
-told_own s J by h command.Restart d u is = let e : deed.Restart ≡ d = cc in subst (TellsBy s J (call by h command.Restart)) e refl
-told_own s J by h (command.Renew a limit) d u is = let e : deed.Renew a limit ≡ d = cc in subst (TellsBy s J (call by h (command.Renew a limit))) e refl
+told_own s J by h command.Restart d u is = let e : deed.Restart ≡ d = cc in
+    subst (TellsBy s J (call by h command.Restart)) e refl
+told_own s J by h (command.Renew a limit) d u is = let e : deed.Renew a limit ≡ d = cc in
+    subst (TellsBy s J (call by h (command.Renew a limit))) e refl
 told_own s J by h (command.Status a) d u is = absurd cc
 told_own s J by h (command.MemberStatus p) d u is = absurd cc
 

@@ -14,7 +14,7 @@ use Rattle.lra_model.specs.Actions.{action_status, children, members_of}
 use Rattle.lra_model.specs.Members.{action_of, addresses_of, has_left, stays, member_status, outstanding_ask}
 use Rattle.lra_model.specs.Rules.{is_legal}
 use Rattle.lra_laws.specs.Rows as rows
-use Rattle.lra_laws.proofs.Legal.{status_is_there, members_of_lem}
+use Rattle.lra_laws.proofs.Named.{status_is_there, members_of_lem}
 use Rattle.lra_laws.proofs.MemberRows.{absent_row}
 use Rattle.lra_laws.proofs.GoodLists.{among_here, among_there}
 use Rattle.lra_laws.proofs.Tested.{both}

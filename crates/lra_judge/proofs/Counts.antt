@@ -97,7 +97,8 @@ settling_keeps P step zero by m J h = subst P (sym (append-nil J)) h
 settling_keeps P step (suc n) by m J h = next (next_settling J) refl (λ K. settling_keeps P step n by m K)
   where
     next : (o : Option Deed) → next_settling J ≡ o → ((K : History) → P K → P (K ++ settling_within n by m K))
-        → P (J ++ option_map_or (λ (d : Deed). (let e : Entry = record { by = by; moment = m; deed = d } in e) ∷ settling_within n by m (J ++ (let e : Entry = record { by = by; moment = m; deed = d } in e) ∷ [])) o [])
+        → P (J ++ option_map_or (λ (d : Deed). (let e : Entry = record { by = by; moment = m; deed = d } in e)
+        ∷ settling_within n by m (J ++ (let e : Entry = record { by = by; moment = m; deed = d } in e) ∷ [])) o [])
     next None g rest = subst P (sym (append-nil J)) h
     next (Some d) g rest =
         let e : Entry = record { by = by; moment = m; deed = d } in

@@ -13,7 +13,8 @@ use Rattle.lra_model.specs.Actions.{children, members_of}
 use Rattle.lra_model.specs.Members.{member_status, outstanding_ask}
 use Rattle.lra_model.specs.Rules.{is_legal}
 use Rattle.lra_model.specs.Wants.{wants, repeat_count, last_repeat}
-use Rattle.lra_laws.proofs.Legal.{IsNumbered, actions_numbered, numbered_among, child_of, member_action, parent_there}
+use Rattle.lra_laws.proofs.Legal.{IsNumbered, actions_numbered, numbered_among}
+use Rattle.lra_laws.proofs.Named.{child_of, member_action, parent_there}
 use Rattle.lra_laws.proofs.GoodLists.{among_here, among_there}
 use Rattle.lra_rows.specs.declared.found.ActionRow.{ActionRow}
 use Rattle.lra_rows.specs.declared.found.MemberRow.{MemberRow}

@@ -61,7 +61,14 @@ is_awaited : (J : History) (e : Asking) → option_map_or (judged.is_carried (ca
 is_awaited J e = one (ask_of J e.ask)
   where
     one : (o : Option Asked)
-        → option_map_or (judged.is_carried (carried_of e)) (option_map (λ (x : Asked). (let r : AskRow = record { member = x.member; kind = x.kind; direction = x.direction; outstanding = is_outstanding J e.ask } in r)) o) false
+        → option_map_or (judged.is_carried (carried_of e))
+        (option_map (λ (x : Asked).
+        (let r : AskRow = record {
+          member = x.member;
+          kind = x.kind;
+          direction = x.direction;
+          outstanding = is_outstanding J e.ask;
+        } in r)) o) false
         ≡ (is_outstanding J e.ask && option_map_or (is_of e) o false)
     one None = sym (and-false (is_outstanding J e.ask))
     one (Some x) = refl
@@ -154,9 +161,16 @@ due_wants l J m p h =
     from : (q : ℕ) (x : Timed) → want_of l J q ≡ Some x → is_some (wants J x.number) ≡ true
     from q x g = one (wants J q) refl g
       where
-        one : (o : Option AskKind) → wants J q ≡ o → option_map (λ (kind : AskKind). (let t : Timed = record { number = q; moment = due_after l (repeat_count J q (stage_wanted J q kind)) (last_repeat J q (stage_wanted J q kind)) } in t)) o ≡ Some x → is_some (wants J x.number) ≡ true
+        one : (o : Option AskKind) → wants J q ≡ o
+            → option_map (λ (kind : AskKind).
+            (let t : Timed = record {
+              number = q;
+              moment = due_after l (repeat_count J q (stage_wanted J q kind))
+                  (last_repeat J q (stage_wanted J q kind));
+            } in t)) o ≡ Some x → is_some (wants J x.number) ≡ true
         one None e i = absurd cc
-        one (Some kind) e i = let same : q ≡ x.number = cc in ap (λ (n : ℕ). is_some (wants J n)) (sym same) ∙ ap (λ (o : Option AskKind). is_some o) e
+        one (Some kind) e i = let same : q ≡ x.number = cc in
+            ap (λ (n : ℕ). is_some (wants J n)) (sym same) ∙ ap (λ (o : Option AskKind). is_some o) e
 
 -- the asks are fewer than the entries, where a clerk has enrolled
 clerks_and_asks : (J : History) → length (filter_map enrolled_by J) + length

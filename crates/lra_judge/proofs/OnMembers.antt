@@ -309,7 +309,9 @@ join_decides s J by h a uris result l k f texts joined = at_tests (is_among (cle
         (ap not there, (ap not (opened s J a k there ∙ active), (ap not bad.1, sym bad.0)))
 
     at_open : is_among (clerks J) by ≡ true → is_among (actions J) a ≡ true → (y : Bool) → is_active (status_at J a) ≡ y
-        → judged.IsJoin s.limits J by m a uris.now result ((judged.required y (refusal.NotActive (status_at J a)) >>= λ _. Ok (row_of J a)) >>= λ r. Ok (let t : Unit {0} = tt in t)) → IsDecided s J c result
+        → judged.IsJoin s.limits J by m a uris.now result
+        ((judged.required y (refusal.NotActive (status_at J a)) >>= λ _. Ok (row_of J a)) >>= λ r. Ok
+        (let t : Unit {0} = tt in t)) → IsDecided s J c result
     at_open here there false j is = subst (λ (r : Judged). IsDecided s J c r) (sym is)
         (first_decides s J c 1 (refusal.NotActive (status_at J a)) (ap not here)
         (ap not there, (ap not (opened s J a k there ∙ j), refl)))
@@ -317,7 +319,9 @@ join_decides s J by h a uris result l k f texts joined = at_tests (is_among (cle
 
     at_tests : (b : Bool) → is_among (clerks J) by ≡ b → (x : Bool) → is_among (actions J) a ≡ x
         → judged.IsJoin s.limits J by m a uris.now result
-        (judged.required b refusal.NoSuchClerk >>= λ _. (option_map_or Ok (cond x (Some (row_of J a)) None) (Err refusal.NoSuchAction) >>= λ r. judged.required (is_active r.status) (refusal.NotActive r.status) >>= λ _. Ok r) >>= λ r. Ok (let t : Unit {0} = tt in t))
+        (judged.required b refusal.NoSuchClerk >>= λ _.
+        (option_map_or Ok (cond x (Some (row_of J a)) None) (Err refusal.NoSuchAction) >>= λ r. judged.required
+        (is_active r.status) (refusal.NotActive r.status) >>= λ _. Ok r) >>= λ r. Ok (let t : Unit {0} = tt in t))
         → IsDecided s J c result
     at_tests false g x i is = subst (λ (r : Judged). IsDecided s J c r) (sym is) (stranger s J c (ap not g))
     at_tests true g false i is = subst (λ (r : Judged). IsDecided s J c r) (sym is)

@@ -65,7 +65,8 @@ enrol_decides s J by h l k f = one (nat_le s.limits.clerks (length (clerks J))) 
 
     one : (b : Bool) → nat_le s.limits.clerks (length (clerks J)) ≡ b → IsDecided s J c
         (cond b (Err (refusal.Full resource.Clerks)) (Ok n) >>= λ x. Ok (judged.written x m deed.Enrol))
-    one true g = let many = leb-true s.limits.clerks (length (clerks J)) g in full_clerks s J c deed.Enrol own (rw clerks_now (omega arith))
+    one true g = let many = leb-true s.limits.clerks (length (clerks J)) g in
+        full_clerks s J c deed.Enrol own (rw clerks_now (omega arith))
     one false g =
         let few = leb-false s.limits.clerks (length (clerks J)) g in
         let low = l.clerks in
@@ -155,7 +156,8 @@ start_below s J by h parent limit above l k f here up =
         })
 
     at_depth : is_moment (m + limit) ≡ true → (b : Bool) → nat_le s.limits.depth above ≡ b
-        → IsDecided s J c ((let r : Result (Unit {0}) Refusal = cond b (Err refusal.TooDeep) (Ok tt) in r) >>= λ _. judged.new_action s.limits J >>= λ a. Ok (judged.written by m (deed.Start a parent limit)))
+        → IsDecided s J c ((let r : Result (Unit {0}) Refusal = cond b (Err refusal.TooDeep) (Ok tt) in r) >>= λ _.
+        judged.new_action s.limits J >>= λ a. Ok (judged.written by m (deed.Start a parent limit)))
     at_depth near true g =
         let low = leb-true s.limits.depth above g in
         let deep : nat_lt s.limits.depth (option_map_or (λ b. depth J b + 1) parent 1)

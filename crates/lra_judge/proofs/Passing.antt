@@ -14,7 +14,7 @@ use Rattle.lra_model.specs.Actions.{parent, action_status, limit_in_force, depth
 use Rattle.lra_model.specs.Members.{action_of, decided, member_status, last_reply, ask_direction, outstanding_ask}
 use Rattle.lra_model.specs.Rules.{is_number}
 use Rattle.lra_model.specs.Wants.{wants, stage_of, repeat_count, last_repeat}
-use Rattle.lra_laws.proofs.Legal.{status_is_there}
+use Rattle.lra_laws.proofs.Named.{status_is_there}
 use Rattle.lra_laws.proofs.Ranges.{last_moment_in_range}
 use Rattle.lra_rows.specs.declared.found.ActionRow.{ActionRow}
 use Rattle.lra_rows.specs.declared.found.MemberRow.{MemberRow}
@@ -131,7 +131,8 @@ pub later : (J : History) (h : ℕ) → last_moment J ≤ max h (last_moment J)
 later J h = omega arith
 
 pub fits : (s : Terms) (J : History) (h : ℕ) → IsLawful s J → h < 2 ^ 64 → is_number (max h (last_moment J)) ≡ true
-fits s J h k f = let low = ltb-true (last_moment J) (2 ^ 64) (last_moment_in_range s.version is_address J k.legal) in lt-ltb (max h (last_moment J)) (2 ^ 64) (omega arith)
+fits s J h k f = let low = ltb-true (last_moment J) (2 ^ 64) (last_moment_in_range s.version is_address J k.legal) in
+    lt-ltb (max h (last_moment J)) (2 ^ 64) (omega arith)
 
 -- an enrolled clerk may write
 pub may : (s : Terms) (J : History) (by h : ℕ) → IsLawful s J → h < 2 ^ 64 → is_among (clerks J) by ≡ true

@@ -65,7 +65,8 @@ none_past f none at (suc n) h = ap (λ (o : Option Known). unwrap_or o (first_so
 drop_there : {X : Type 0} (xs : List X) (i : ℕ) (x : X) → slice_get xs i ≡ Some x → drop i xs ≡ x ∷ drop (i + 1) xs
 drop_there [] i x h = absurd cc
 drop_there (y ∷ ys) zero x h = let e : y ≡ x = cc in ap (λ z. z ∷ ys) e
-drop_there (y ∷ ys) (suc i) x h = let e : suc (i + 1) ≡ suc i + 1 = omega arith in drop_there ys i x h ∙ ap (λ k. x ∷ drop k (y ∷ ys)) e
+drop_there (y ∷ ys) (suc i) x h = let e : suc (i + 1) ≡ suc i + 1 = omega arith in
+    drop_there ys i x h ∙ ap (λ k. x ∷ drop k (y ∷ ys)) e
 
 -- what is told of a list of rows, the first of which is at a place
 abbrev seen : {X : Type 0} → (X → Bool) → (ℕ → X → Known) → Known → ℕ → List X → Known
@@ -89,12 +90,14 @@ told_along {X = X} test told none xs (suc n) at = one (slice_get xs at) refl (to
         ≡ option_map_or (told (at + cond (not b) (1 + position_or_len test rest) 0))
         (cond b (Some x) (find test rest)) none
     two true x h = let e : at ≡ at + 0 = omega arith in ap (λ m. told m x) e
-    two false x h = let e : (at + 1) + position_or_len test rest ≡ at + (1 + position_or_len test rest) = omega arith in h ∙ ap (λ m. option_map_or (told m) (find test rest) none) e
+    two false x h = let e : (at + 1) + position_or_len test rest ≡ at + (1 + position_or_len test rest) = omega arith in
+        h ∙ ap (λ m. option_map_or (told m) (find test rest) none) e
 
     one : (o : Option X) → slice_get xs at ≡ o → later ≡ seen test told none (at + 1) rest
         → unwrap_or (told_at test told at (slice_get xs at)) later ≡ seen test told none at (take (suc n) (drop at xs))
     one None g h =
-        none_past (λ k. told_at test told k (slice_get xs k)) none at (suc n) (λ k l. ap (told_at test told k) (slice_get_past xs k (let m = gone xs at g in omega (arith, l, m))))
+        none_past (λ k. told_at test told k (slice_get xs k)) none at (suc n)
+        (λ k l. ap (told_at test told k) (slice_get_past xs k (let m = gone xs at g in omega (arith, l, m))))
         ∙ sym (ap (λ ys. seen test told none at (take (suc n) ys)) (drop_all at xs (gone xs at g)))
     one (Some x) g h = ap (λ o. unwrap_or (told_at test told at o) later) g ∙ two (test x) x h
         ∙ sym (ap (λ ys. seen test told none at (take (suc n) ys)) (drop_there xs at x g))
@@ -106,7 +109,8 @@ past_rows : (m : Limits) (v : Version) (t : List ℕ → Bool) (J : History) →
 past_rows m v t J l (walk.Awaited a status) k h = ap (told_at (held status J) known.Awaits k)
     (slice_get_past (found_rows J a) k h)
 past_rows m v t J l (walk.Listed x) k h =
-    ap (told_at (belongs x) known.Row k) (row_is m v t J l x k ∙ slice_get_past (rows_along m J x) k (let e = count_is m J x in omega (arith, h, e)))
+    ap (told_at (belongs x) known.Row k)
+    (row_is m v t J l x k ∙ slice_get_past (rows_along m J x) k (let e = count_is m J x in omega (arith, h, e)))
 
 -- all rows were looked at
 pub none_left : (l : Limits) (s : Sheet) (J : History) → StandsFor s J → (w : Walk) (none : Known) (place n : ℕ)

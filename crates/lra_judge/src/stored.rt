@@ -1,6 +1,20 @@
 //! The addresses of a member, as they are stored.
 
-ghost use Rattle.std.specs.Prelude.{◌≡◌, ◌≢◌, ◌&&◌, ◌||◌, IfOk, IfErr, Ok, true, false, string_bytes, option_map, is_some, is_none};
+ghost use Rattle.std.specs.Prelude.{
+  ◌≡◌,
+  ◌≢◌,
+  ◌&&◌,
+  ◌||◌,
+  IfOk,
+  IfErr,
+  Ok,
+  true,
+  false,
+  string_bytes,
+  option_map,
+  is_some,
+  is_none,
+};
 ghost use Rattle.lra_model.specs.Addresses.{text_of};
 ghost use Rattle.lra_ids.specs.Addresses.{address_of};
 ghost use Rattle.lra_commands.specs.Deeds.{stored};

@@ -20,7 +20,7 @@ use Rattle.lra_model.specs.Ends.{action_is}
 use Rattle.lra_model.specs.Rules.{is_legal}
 use Rattle.lra_laws.proofs.Push.{action_status_push, limit_push, members_push}
 use Rattle.lra_laws.proofs.Legal.{Allowed, legal_more, numbered_fresh, actions_numbered, members_numbered}
-use Rattle.lra_laws.proofs.Legal.{status_is_there, parent_stays, parent_there, action_of_there}
+use Rattle.lra_laws.proofs.Named.{status_is_there, parent_stays, parent_there, action_of_there}
 use Rattle.lra_laws.specs.Rows.{MemberRow, ActionRow, member_row, action_row, count_staying, count_children, counts_as}
 use Rattle.lra_laws.specs.Rows.{is_left_to_complete, is_left_to_compensate, is_uncompleted, is_uncompensated}
 use Rattle.lra_laws.specs.Rows.{is_unended, is_uncancelled, recount, one, with_member, with_new_member, with_child}

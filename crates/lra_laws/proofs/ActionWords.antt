@@ -21,8 +21,9 @@ use Rattle.lra_laws.proofs.Push.{actions_push, action_status_push, limit_push, c
 use Rattle.lra_laws.proofs.Push.{members_of_push}
 use Rattle.lra_laws.proofs.GoodLists.{filter_same}
 use Rattle.lra_laws.proofs.Legal.{legal_induction, Allowed, numbered_fresh, actions_numbered, members_numbered}
-use Rattle.lra_laws.proofs.Legal.{started_number, joined_number, parent_stays, parent_of_new, action_of_stays}
-use Rattle.lra_laws.proofs.Legal.{action_of_new}
+use Rattle.lra_laws.proofs.Legal.{started_number, joined_number}
+use Rattle.lra_laws.proofs.Named.{parent_stays, parent_of_new, action_of_stays}
+use Rattle.lra_laws.proofs.Named.{action_of_new}
 use Rattle.lra_laws.specs.Rows.{MemberRow, member_row, count_staying, count_children, counts_as}
 use Rattle.lra_laws.proofs.RowLists.{eqb_self, count_filter, count_within}
 use Rattle.lra_laws.proofs.Told.{entry, more}

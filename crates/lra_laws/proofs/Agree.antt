@@ -22,7 +22,8 @@ use Rattle.lra_model.specs.Ends.{top_has_ended}
 use Rattle.lra_model.specs.Facts.{action_facts, member_facts, facts_of}
 use Rattle.lra_model.specs.Rules.{is_legal}
 use Rattle.lra_laws.proofs.Legal.{IsNumbered, numbered_among, numbered_there, actions_numbered, members_numbered}
-use Rattle.lra_laws.proofs.Legal.{clerks_numbered, status_is_there, parent_there, children_lem}
+use Rattle.lra_laws.proofs.Legal.{clerks_numbered}
+use Rattle.lra_laws.proofs.Named.{status_is_there, parent_there, children_lem}
 use Rattle.lra_laws.specs.Rows.{Standing, MemberRow, ActionRow, standing, void_asks, count_staying, count_children}
 use Rattle.lra_laws.specs.Rows.{is_uncompensated, action_row, member_row, state_of, row_at, stands_as}
 use Rattle.lra_laws.specs.Ends.{settled_by, right_end_by}
@@ -150,7 +151,8 @@ clerk_agrees ns h n = decide (is_among ns n) refl
     decide false e = within (nat_lt 0 n) refl (nat_le n (length ns)) refl
       where
         within : (x : Bool) → nat_lt 0 n ≡ x → (y : Bool) → nat_le n (length ns) ≡ y → (x && y) ≡ false
-        within true f true g = let k : is_among ns n ≡ true = numbered_there ns h n (ltb-true 0 n f) (leb-true n (length ns) g) in absurd cc
+        within true f true g = let k : is_among ns n ≡ true = numbered_there ns h n (ltb-true 0 n f)
+            (leb-true n (length ns) g) in absurd cc
         within true f false g = refl
         within false f y g = refl
 
@@ -252,7 +254,9 @@ outstanding_agrees v t J l n = decide (nat_lt (void_asks J) n) refl (ask_of J n)
         here : (o : Option Standing) → standing J x.member ≡ o → kind_found J n
             (find (stands_as n) (map (member_row J) (members J))) ≡ cond (is_outstanding J n) (Some x.kind) None
         here None f =
-            nothing true (λ q. silent q (λ s k h. let y : None ≡ Some s = sym f ∙ ap (λ (a : Asked). standing J a.member) (sym (same q s k h)) ∙ k in absurd cc))
+            nothing true (λ q. silent q
+            (λ s k h. let y : None ≡ Some s = sym f ∙ ap (λ (a : Asked). standing J a.member) (sym (same q s k h))
+            ∙ k in absurd cc))
             ∙ sym (ap (kind_if x) (now ∙ ap (λ (o : Option Standing). stands_for o n) f))
         here (Some s) f = either (s.number == n) refl
           where
@@ -261,7 +265,8 @@ outstanding_agrees v t J l n = decide (nat_lt (void_asks J) n) refl (ask_of J n)
             either true h =
                 ap (kind_found J n) (find_row (stands_as n) (member_row J) (members J) x.member
                 ((asks_listed v t J l).there n x e) (ap (λ (o : Option Standing). stands_for o n) f ∙ h)
-                (λ q k. silent q (λ z m w. let c : (x.member == q) ≡ true = ap (λ (a : Asked). a.member == q) (sym (same q z m w)) ∙ eqb_self q in let d : true ≡ false = sym c ∙ k in absurd cc)))
+                (λ q k. silent q (λ z m w. let c : (x.member == q) ≡ true = ap (λ (a : Asked). a.member == q)
+                (sym (same q z m w)) ∙ eqb_self q in let d : true ≡ false = sym c ∙ k in absurd cc)))
                 ∙ ap (option_map (λ (y : Standing). y.kind)) f
                 ∙ ap (λ (a : Asked). some a.kind) (same x.member s f h)
                 ∙ sym (ap (kind_if x) (now ∙ ap (λ (o : Option Standing). stands_for o n) f ∙ h))

@@ -76,7 +76,8 @@ find_place (x ∷ xs) a i n h e = at i e (first_number x xs a h) (λ j g. find_p
 find_below : (xs : List Asked) (a n : ℕ) → numbers xs ≡ range_with_len a (length xs) → n < a
     → find (λ (x : Asked). x.number == n) xs ≡ None
 find_below [] a n h e = refl
-find_below (x ∷ xs) a n h e = ap found (ne_eqb x.number n (λ z. let f = first_number x xs a h in omega arith)) ∙ find_below xs (a + 1) n (numbers_after x xs a h) (omega arith)
+find_below (x ∷ xs) a n h e = ap found (ne_eqb x.number n (λ z. let f = first_number x xs a h in omega arith))
+    ∙ find_below xs (a + 1) n (numbers_after x xs a h) (omega arith)
   where
     found : Bool → Option Asked
     found b = cond b (Some x) (find (λ (y : Asked). y.number == n) xs)

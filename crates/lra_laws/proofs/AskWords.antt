@@ -23,7 +23,8 @@ use Rattle.lra_model.specs.Members.{is_outstanding, ask_given, outstanding_ask}
 use Rattle.lra_model.specs.Rules.{is_legal}
 use Rattle.lra_laws.proofs.Push.{or_none, step, ask_of_push, asks_push, asks_to_push, is_outstanding_push}
 use Rattle.lra_laws.proofs.Push.{was_asked_push}
-use Rattle.lra_laws.proofs.Legal.{legal_induction, among_push, member_there_push}
+use Rattle.lra_laws.proofs.Legal.{legal_induction, among_push}
+use Rattle.lra_laws.proofs.Named.{member_there_push}
 use Rattle.lra_laws.proofs.GoodLists.{among_here, among_there, find_nothing}
 use Rattle.lra_laws.proofs.Tested.{both, none_from_absent}
 use Rattle.lra_laws.specs.Rows.{Standing, standing_at, standing, void_at, void_asks}
@@ -177,8 +178,11 @@ listed_ask J by m k p kind told ih = record {
             → option_map_or (λ (x : Asked). x.member == q) (option_or o (when c (new_ask J k p kind))) false ≡ true
         decide (Some y) g true f b x c z i = ap (λ (o : Option Asked). option_map_or (λ (x : Asked). x.member == q) o
             false) (sym g) ∙ ih.listing q n f
-        decide None g true f b x c z i = absurd (let y = sym (ap (λ (o : Option Asked). option_map_or (λ (x : Asked). x.member == q) o false) g) ∙ ih.listing q n f in cc)
-        decide (Some y) g false f true x c z i = absurd (let e : k ≡ n = eqb-true k n i in let s = ih.below n y g in let t = told.number in omega arith)
+        decide None g true f b x c z i = absurd
+            (let y = sym (ap (λ (o : Option Asked). option_map_or (λ (x : Asked). x.member == q) o false) g)
+            ∙ ih.listing q n f in cc)
+        decide (Some y) g false f true x c z i = absurd (let e : k ≡ n = eqb-true k n i in let s = ih.below n y g in
+            let t = told.number in omega arith)
         decide None g false f true x true z i = x
         decide None g false f true x false z i = absurd cc
         decide o g false f false x c z i = absurd cc
@@ -227,7 +231,8 @@ stand_still : (J : History) (by m : ℕ) (d : Deed) → asked_at (step J (entry 
     → ((n : ℕ) → standing_given n d ≡ None) → asked_by d ≡ None → AsksStand J → AsksStand (more J by m d)
 stand_still J by m d none still no_void no_turn no_number ih = record {
   stands = λ p s h. ask_kept J by m d s.number none ∙ ih.stands p s (sym (stand_after J by m d p None (still p)) ∙ h);
-  void_below = let a = void_kept J by m d no_void in let b = asks_kept J by m d no_number in let c = ih.void_below in omega arith;
+  void_below = let a = void_kept J by m d no_void in let b = asks_kept J by m d no_number in let c = ih.void_below in
+      omega arith;
   outstanding = λ n.
       is_outstanding_push J (entry by m d) n ∙ ap (λ (o : Option Bool). unwrap_or o (is_outstanding J n)) (no_turn n)
       ∙ ih.outstanding n
@@ -269,11 +274,14 @@ stand_ask J by m k p kind told list ih = record {
         (option_or o (when b (new_ask J k p kind)))
     turn n None e true g =
         let same : k ≡ n = eqb-true k n g in
-        let v : void_asks (more J by m (Ask k p kind)) < n = (let a = void_kept J by m (Ask k p kind) refl in let c = ih.void_below in let t = told.number in omega arith) in
+        let v : void_asks (more J by m (Ask k p kind)) < n =
+        (let a = void_kept J by m (Ask k p kind) refl in let c = ih.void_below in let t = told.number in
+        omega arith) in
         sym ((λ i. lt-ltb (void_asks (more J by m (Ask k p kind))) n v i
         && stands_for (stand_asked J by m k p kind i) n) ∙ g)
     turn n None e false g = ih.outstanding n ∙ ap (stands_yet J n) e
-    turn n (Some y) e true g = absurd (let same : k ≡ n = eqb-true k n g in let b = list.below n y e in let t = told.number in omega arith)
+    turn n (Some y) e true g = absurd (let same : k ≡ n = eqb-true k n g in let b = list.below n y e in
+        let t = told.number in omega arith)
     turn n (Some y) e false g = of_member (p == y.member) refl
       where
         of_member : (b : Bool) → (p == y.member) ≡ b → is_outstanding J n
@@ -300,7 +308,8 @@ stand_reply : (J : History) (by m k : ℕ) (o : Outcome) (x : Asked) → ReplyTo
     → AsksStand (more J by m (Reply k o))
 stand_reply J by m k o x told ih = record {
   stands = λ q s h. ask_kept J by m (Reply k o) s.number refl ∙ stands_of q s (x.member == q) refl h;
-  void_below = let a = void_kept J by m (Reply k o) refl in let b = asks_kept J by m (Reply k o) refl in let c = ih.void_below in omega arith;
+  void_below = let a = void_kept J by m (Reply k o) refl in let b = asks_kept J by m (Reply k o) refl in
+      let c = ih.void_below in omega arith;
   outstanding = λ n. is_outstanding_push J (entry by m (Reply k o)) n ∙ turn n (ask_of J n) refl (k == n) refl
       ∙ sym (ap (stands_yet (more J by m (Reply k o)) n) (ask_kept J by m (Reply k o) n refl));
 }
@@ -311,7 +320,9 @@ stand_reply J by m k o x told ih = record {
 
     stands_of : (q : ℕ) (s : Standing) (b : Bool) → (x.member == q) ≡ b → standing (more J by m (Reply k o)) q ≡ Some s
         → ask_of J s.number ≡ Some (asked_of q s)
-    stands_of q s true e h = absurd (let n : None ≡ Some s = sym (stand_replied J by m k o x told.asked) ∙ ap (standing (more J by m (Reply k o))) (eqb-true x.member q e) ∙ h in cc)
+    stands_of q s true e h = absurd
+        (let n : None ≡ Some s = sym (stand_replied J by m k o x told.asked)
+        ∙ ap (standing (more J by m (Reply k o))) (eqb-true x.member q e) ∙ h in cc)
     stands_of q s false e h = ih.stands q s (sym (quiet q e) ∙ h)
 
     -- the ask that is answered is the one that stands

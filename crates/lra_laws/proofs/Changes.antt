@@ -32,9 +32,12 @@ use Rattle.lra_laws.proofs.Contacts.{repeat_of, repeats_push}
 use Rattle.lra_laws.proofs.GoodLists.{among_here, among_there, among_filter}
 use Rattle.lra_laws.proofs.GoodSpared.{close_active, cancel_case}
 use Rattle.lra_laws.proofs.Legal.{Allowed, AllKept, at_action_from, entry_kept, close_kept, cancel_kept, action_fact}
-use Rattle.lra_laws.proofs.Legal.{among_push, state_is_lem, parent_stays, started_number, numbered_fresh}
-use Rattle.lra_laws.proofs.Legal.{actions_numbered, asks_numbered, range_there, member_there_push, action_of_there}
-use Rattle.lra_laws.proofs.Legal.{members_of_lem, legal_more}
+use Rattle.lra_laws.proofs.Legal.{among_push, started_number, numbered_fresh}
+use Rattle.lra_laws.proofs.Named.{state_is_lem, parent_stays}
+use Rattle.lra_laws.proofs.Legal.{actions_numbered, asks_numbered, range_there}
+use Rattle.lra_laws.proofs.Named.{member_there_push, action_of_there}
+use Rattle.lra_laws.proofs.Legal.{legal_more}
+use Rattle.lra_laws.proofs.Named.{members_of_lem}
 use Rattle.lra_laws.proofs.RowLists.{eqb_self, eqb_flip, among_apart}
 use Rattle.lra_laws.proofs.Told.{entry, more}
 use Rattle.lra_laws.proofs.Tops.{top_stays, top_is_there, top_is_outermost, top_of_outermost}
@@ -197,7 +200,8 @@ unasked v t J p l h = is_asked_by J p list stand ∙ of_standing (standing J p) 
         ≡ true
     there s e g =
         ap (λ (ns : List ℕ). is_among ns s.number) (asks_numbered v t J l)
-        ∙ range_there 1 (length (asks J)) s.number (let lower = ltb-true (void_asks J) s.number g in omega arith) (let upper = list.below s.number (asked_of p s) (stand.stands p s e) in omega arith)
+        ∙ range_there 1 (length (asks J)) s.number (let lower = ltb-true (void_asks J) s.number g in omega arith)
+        (let upper = list.below s.number (asked_of p s) (stand.stands p s e) in omega arith)
 
     gives : (s : Standing) → standing J p ≡ Some s → nat_lt (void_asks J) s.number ≡ true → member_awaited J s.number
         ≡ Some p
@@ -381,7 +385,8 @@ unended v t J by m d p l k g h = by_deed d h (started_number v t J by m d k)
         → is_among (cond (is_some o) (members_of J c) (members_under J c)) p ≡ false → (b : Bool) → (c == outer) ≡ b
         → when b s ≡ None
     ended c s o e n false i = refl
-    ended c s (Some b) e n true i = absurd (let x : Some b ≡ None = sym e ∙ ap (parent J) (eqb-true c outer i) ∙ alone in cc)
+    ended c s (Some b) e n true i = absurd
+        (let x : Some b ≡ None = sym e ∙ ap (parent J) (eqb-true c outer i) ∙ alone in cc)
     ended c s None e n true i =
         let x : (outer == c) ≡ false = second_fails (is_among (members J) p) (outer == c)
         (is_among (members_under J c) p) (under_lem J c p) g n in

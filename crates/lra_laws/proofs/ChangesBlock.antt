@@ -16,8 +16,9 @@ use Rattle.lra_model.specs.Settling.{is_settling, next_settling, settling_within
 use Rattle.lra_model.specs.Rules.{is_legal}
 use Rattle.lra_laws.specs.Changes.{members_changed, actions_changed, members_changed_by, actions_changed_by}
 use Rattle.lra_laws.proofs.Changes.{SameWants, SameLimit, wants_kept, limits_kept, under_lem}
-use Rattle.lra_laws.proofs.Legal.{Allowed, action_there_push, parent_stays, action_of_stays, action_of_there}
-use Rattle.lra_laws.proofs.Legal.{members_of_lem}
+use Rattle.lra_laws.proofs.Legal.{Allowed}
+use Rattle.lra_laws.proofs.Named.{action_there_push, parent_stays, action_of_stays, action_of_there}
+use Rattle.lra_laws.proofs.Named.{members_of_lem}
 use Rattle.lra_laws.proofs.Rests.{next_settles}
 use Rattle.lra_laws.proofs.RowLists.{eqb_flip, among_apart}
 use Rattle.lra_laws.proofs.Settled.{settling_allowed}
@@ -122,7 +123,8 @@ still_out v t J K d p l k x s h = by_deed d s h
             → is_among (cond (is_some o) (members_of K c) (members_under K c)) p ≡ false
         either (Some b) i = members_as v t J K p c l k x ∙ i
         either None i = under_as v t J K p c l x ∙ i
-    ends c false e g = let none = none_in v t J p c l e in either (parent K c) (members_as v t J K p c l k x ∙ none.0) (under_as v t J K p c l x ∙ none.1)
+    ends c false e g = let none = none_in v t J p c l e in
+        either (parent K c) (members_as v t J K p c l k x ∙ none.0) (under_as v t J K p c l x ∙ none.1)
       where
         either : (o : Option ℕ) → is_among (members_of K c) p ≡ false → is_among (members_under K c) p ≡ false
             → is_among (cond (is_some o) (members_of K c) (members_under K c)) p ≡ false

@@ -21,8 +21,9 @@ use Rattle.lra_laws.specs.Rows.{change_row}
 use Rattle.lra_laws.specs.Sheets.{Repeats, Contact, repeats_in, contact_of, no_repeats, new_contact, again, with_repeat}
 use Rattle.lra_laws.specs.Sheets.{with_answer}
 use Rattle.lra_laws.proofs.Push.{step, read_push, last_or_push, replies_push, members_push}
-use Rattle.lra_laws.proofs.Legal.{legal_induction, Allowed, numbered_fresh, members_numbered, addresses_stay}
-use Rattle.lra_laws.proofs.Legal.{addresses_of_new}
+use Rattle.lra_laws.proofs.Legal.{legal_induction, Allowed, numbered_fresh, members_numbered}
+use Rattle.lra_laws.proofs.Named.{addresses_stay}
+use Rattle.lra_laws.proofs.Named.{addresses_of_new}
 use Rattle.lra_laws.proofs.RowLists.{eqb_self, eqb_flip, among_apart, map_within, rows_changed, rows_more}
 use Rattle.lra_laws.proofs.Told.{entry, more, Told, told}
 use Rattle.lra_laws.proofs.MemberRows.{absent_before, members_stay}

@@ -23,7 +23,7 @@ use Rattle.lra_model.specs.Ends.{staying, action_is, settles, children_are_well,
 use Rattle.lra_model.specs.Rules.{is_legal}
 use Rattle.lra_laws.proofs.Push.{action_status_push, children_push, members_of_push, has_left_push}
 use Rattle.lra_laws.proofs.Tested.{both, and_intro}
-use Rattle.lra_laws.proofs.Legal.{addresses_stay, member_action}
+use Rattle.lra_laws.proofs.Named.{addresses_stay, member_action}
 use Rattle.lra_laws.proofs.GoodLists.{list_all_same, list_any_same, filter_same, passes_at, among_filter}
 use Rattle.lra_laws.proofs.GoodStatus.{is_decided, member_status_kept}
 
@@ -74,7 +74,8 @@ untouched v t J l e a s decided = record {
       ∙ append-nil (children J a);
   staying_same = ap (λ (ns : List ℕ). filter (stays (J ++ e ∷ [])) ns) members_same
       ∙ filter_same (stays (J ++ e ∷ [])) (stays J) (members_of J a) stays_same;
-  member_same = λ p h. let q = staying_member J a p h in member_status_kept J e p (decided p h) (s.no_leave p q.0) (s.no_ask p q.0);
+  member_same = λ p h. let q = staying_member J a p h in
+      member_status_kept J e p (decided p h) (s.no_leave p q.0) (s.no_ask p q.0);
   child_same = λ c h. action_status_push J e c ∙ ap (λ (o : Option ActionStatus). option_or o (action_status J c))
       (s.no_turn c h);
 }

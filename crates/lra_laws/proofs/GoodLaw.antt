@@ -29,8 +29,10 @@ use Rattle.lra_model.specs.GoodEnds.{StaysUnder, IsCompletedForGood, HasGoodEnd,
 use Rattle.lra_laws.proofs.Push.{action_status_push, was_cancelled_push}
 use Rattle.lra_laws.proofs.Tested.{both}
 use Rattle.lra_laws.proofs.Legal.{Allowed, entry_kept, close_kept, end_kept, action_fact, started_number}
-use Rattle.lra_laws.proofs.Legal.{actions_numbered, numbered_among, numbered_fresh, state_is_lem, status_is_there}
-use Rattle.lra_laws.proofs.Legal.{parent_there, child_of, child_from, member_action, member_from, legal_induction}
+use Rattle.lra_laws.proofs.Legal.{actions_numbered, numbered_among, numbered_fresh}
+use Rattle.lra_laws.proofs.Named.{state_is_lem, status_is_there}
+use Rattle.lra_laws.proofs.Legal.{legal_induction}
+use Rattle.lra_laws.proofs.Named.{parent_there, child_of, child_from, member_action, member_from}
 use Rattle.lra_laws.proofs.GoodLists.{passes_at, fails_at, found_at, none_at}
 use Rattle.lra_laws.proofs.GoodStatus.{completed_never_asked}
 use Rattle.lra_laws.proofs.GoodKept.{staying_member, staying_from, EndsAgain, EndsStand}

@@ -24,7 +24,8 @@ find_passes f (x ∷ xs) p h = either (f x) refl h (find_passes f xs p)
   where
     either : (b : Bool) → f x ≡ b → cond b (Some x) (find f xs) ≡ Some p
         → (find f xs ≡ Some p → (is_among xs p ≡ true) × (f p ≡ true)) → (is_among (x ∷ xs) p ≡ true) × (f p ≡ true)
-    either true g i rest = let e : x ≡ p = cc in (ap (λ (b : Bool). b || is_among xs p) (ap (λ (n : ℕ). n == p) e ∙ eq-eqb p p refl), ap f (sym e) ∙ g)
+    either true g i rest = let e : x ≡ p = cc in
+        (ap (λ (b : Bool). b || is_among xs p) (ap (λ (n : ℕ). n == p) e ∙ eq-eqb p p refl), ap f (sym e) ∙ g)
     either false g i rest = let r = rest i in (later (x == p) r.0, r.1)
       where
         later : (b : Bool) → is_among xs p ≡ true → (b || is_among xs p) ≡ true

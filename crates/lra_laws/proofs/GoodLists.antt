@@ -84,7 +84,8 @@ among_filter f (x ∷ xs) n = either (x == n) refl (f x) refl (among_filter f xs
         → is_among (cond c (x ∷ filter f xs) (filter f xs)) n ≡ ((b || is_among xs n) && f n)
     either true e true g i = ap (λ (b : Bool). b || is_among (filter f xs) n) e ∙ sym (ap f (sym (eqb-true x n e)) ∙ g)
     either false e true g i = ap (λ (b : Bool). b || is_among (filter f xs) n) e ∙ i
-    either true e false g i = let fails = ap f (sym (eqb-true x n e)) ∙ g in i ∙ ap (λ (b : Bool). is_among xs n && b) fails ∙ and-false (is_among xs n) ∙ sym fails
+    either true e false g i = let fails = ap f (sym (eqb-true x n e)) ∙ g in
+        i ∙ ap (λ (b : Bool). is_among xs n && b) fails ∙ and-false (is_among xs n) ∙ sym fails
     either false e false g i = i
 
 -- where none is found, none among them passes

@@ -30,8 +30,10 @@ use Rattle.lra_laws.proofs.Push.{action_status_push}
 use Rattle.lra_laws.proofs.Tested.{both}
 use Rattle.lra_laws.proofs.Legal.{Allowed, AllKept, entry_kept, start_kept, join_kept, leave_kept, close_kept}
 use Rattle.lra_laws.proofs.Legal.{cancel_kept, ask_kept, end_kept, action_fact, member_fact, at_action_from}
-use Rattle.lra_laws.proofs.Legal.{started_number, actions_numbered, numbered_among, state_is_lem, parent_there}
-use Rattle.lra_laws.proofs.Legal.{child_of, member_action, legal_induction}
+use Rattle.lra_laws.proofs.Legal.{started_number, actions_numbered, numbered_among}
+use Rattle.lra_laws.proofs.Named.{state_is_lem, parent_there}
+use Rattle.lra_laws.proofs.Legal.{legal_induction}
+use Rattle.lra_laws.proofs.Named.{child_of, member_action}
 use Rattle.lra_laws.proofs.GoodKept.{Spares, untouched, before_end, EndsAgain, EndsStand, ends_again_after}
 use Rattle.lra_laws.proofs.GoodKept.{ends_again_now, settles_decided, settles_ended}
 
@@ -227,7 +229,8 @@ spares_end v t J l a s = record {
   no_member = refl;
   no_leave = λ p h. refl;
   no_ask = λ p h. refl;
-  no_turn = λ c h. let less = (parent_there v t J l c a (child_of v t J l a c h)).less in ap (λ (x : Bool). when x s) (ne_eqb a c (λ (i : a ≡ c). let z : ⊥ = omega arith in z));
+  no_turn = λ c h. let less = (parent_there v t J l c a (child_of v t J l a c h)).less in
+      ap (λ (x : Bool). when x s) (ne_eqb a c (λ (i : a ≡ c). let z : ⊥ = omega arith in z));
 }
 
 -- an action that ends now ends so again

@@ -50,7 +50,9 @@ asked_now J by m (Ask k q kind) n x h g = numbered (k == n) h
     by_kind ask.Forget i = absurd cc
     by_kind ask.After i = absurd cc
 
-    numbered : (b : Bool) → when b (let a : Asked = record { number = k; member = q; kind = kind; direction = ask_direction J q kind } in a) ≡ Some x → (was_asked J x.member ask.Compensate || is_ask_for x.member ask.Compensate (Ask k q kind)) ≡ true
+    numbered : (b : Bool) → when b
+        (let a : Asked = record { number = k; member = q; kind = kind; direction = ask_direction J q kind } in a)
+        ≡ Some x → (was_asked J x.member ask.Compensate || is_ask_for x.member ask.Compensate (Ask k q kind)) ≡ true
     numbered false i = absurd cc
     numbered true i =
         let a : Asked = record { number = k; member = q; kind = kind; direction = ask_direction J q kind } in
@@ -82,7 +84,9 @@ not_heard : (J : History) (by m : ℕ) (d : Deed) (p : ℕ) → was_asked J p as
 not_heard J by m (Reply n o) p h = by_ask (ask_of J n) refl
   where
     by_ask : (x : Option Asked) → ask_of J n ≡ x
-        → option_map_or (λ (h : Heard). when (decides p direction.Compensation h) h.outcome) (option_map (λ (a : Asked). let r : Heard = record { member = a.member; direction = a.direction; outcome = o } in r) x) None ≡ None
+        → option_map_or (λ (h : Heard). when (decides p direction.Compensation h) h.outcome)
+        (option_map (λ (a : Asked). let r : Heard =
+        record { member = a.member; direction = a.direction; outcome = o } in r) x) None ≡ None
     by_ask None g = refl
     by_ask (Some a) g = by_member (a.member == p) refl (same_direction a.direction direction.Compensation) refl
       where

@@ -83,13 +83,15 @@ none_is_legal = refl
 pub no_active_in_closed : GoodEnds active_in_closed → ⊥
 unfolding steps members parent is_under action_status was_cancelled action_of addresses_of has_left stays was_asked
     ask_of decided member_status was_cancelled_below
-no_active_in_closed good = let wrong : member.Active ≡ member.Completed = ((good 1).closed refl 1 (refl, refl, refl) refl).completed in absurd cc
+no_active_in_closed good = let wrong : member.Active ≡ member.Completed =
+    ((good 1).closed refl 1 (refl, refl, refl) refl).completed in absurd cc
 
 -- a closed action has no member that was asked to compensate, where nothing below it was cancelled
 pub no_asked_in_closed : GoodEnds asked_in_closed → ⊥
 unfolding steps members parent is_under action_status was_cancelled action_of addresses_of has_left stays was_asked
     ask_of decided member_status was_cancelled_below
-no_asked_in_closed good = let wrong : true ≡ false = ((good 1).closed refl 1 (refl, refl, refl) refl).never_asked in absurd cc
+no_asked_in_closed good = let wrong : true ≡ false = ((good 1).closed refl 1 (refl, refl, refl) refl).never_asked in
+    absurd cc
 
 -- a closed action has no failed member
 pub no_failed_in_closed : GoodEnds failed_in_closed → ⊥
@@ -101,7 +103,8 @@ no_failed_in_closed good = let wrong : true ≡ false = (good 1).unfailed refl r
 pub no_completed_in_cancelled : GoodEnds completed_in_cancelled → ⊥
 unfolding steps members parent is_under action_status was_cancelled action_of addresses_of has_left stays was_asked
     ask_of decided member_status was_cancelled_below
-no_completed_in_cancelled good = let wrong : member.Completed ≡ member.Compensated = (good 1).cancelled refl 1 (refl, refl, refl) in absurd cc
+no_completed_in_cancelled good = let wrong : member.Completed ≡ member.Compensated = (good 1).cancelled refl 1
+    (refl, refl, refl) in absurd cc
 
 -- an action that failed has a failed member
 pub some_failed_in_failed : GoodEnds completed_in_failed → ⊥
@@ -114,19 +117,22 @@ some_failed_in_failed good = none ((good 1).failed refl)
 
     none : (p : ℕ) × StaysUnder completed_in_failed 1 p × (member_has_failed (member_status completed_in_failed p)
         ≡ true) → ⊥
-    none r = let wrong : false ≡ true = ap (λ (p : ℕ). member_has_failed (member_status completed_in_failed p)) (only r.0 r.1.0) ∙ r.2 in absurd cc
+    none r = let wrong : false ≡ true = ap (λ (p : ℕ). member_has_failed (member_status completed_in_failed p))
+        (only r.0 r.1.0) ∙ r.2 in absurd cc
 
 -- below a closed action too, no member is active
 pub no_active_below_closed : GoodEnds active_below_closed → ⊥
 unfolding steps members parent is_under action_status was_cancelled action_of addresses_of has_left stays was_asked
     ask_of decided member_status was_cancelled_below
-no_active_below_closed good = let wrong : member.Active ≡ member.Completed = ((good 1).closed refl 1 (refl, refl, refl) refl).completed in absurd cc
+no_active_below_closed good = let wrong : member.Active ≡ member.Completed =
+    ((good 1).closed refl 1 (refl, refl, refl) refl).completed in absurd cc
 
 -- below a closed action, a member of a nested one that was cancelled is compensated
 pub no_active_in_cancelled_below : GoodEnds active_in_cancelled_below → ⊥
 unfolding steps members parent is_under action_status was_cancelled action_of addresses_of has_left stays was_asked
     ask_of decided member_status was_cancelled_below
-no_active_in_cancelled_below good = let wrong : member.Active ≡ member.Compensated = (good 1).undone refl 1 (refl, refl, refl) refl in absurd cc
+no_active_in_cancelled_below good = let wrong : member.Active ≡ member.Compensated = (good 1).undone refl 1
+    (refl, refl, refl) refl in absurd cc
 
 -- ---- legal histories, and what good ends say of them
 

@@ -13,7 +13,7 @@ use Rattle.lra_model.specs.Actions.{parent, lineage_within, lineage, top, is_und
 use Rattle.lra_model.specs.Actions.{was_cancelled_below}
 use Rattle.lra_model.specs.Rules.{is_legal}
 use Rattle.lra_laws.proofs.Climbs.{top_within, top_climbs, is_within, under_climbs, cancelled_within, below_climbs}
-use Rattle.lra_laws.proofs.Legal.{parent_there}
+use Rattle.lra_laws.proofs.Named.{parent_there}
 use Rattle.lra_laws.proofs.GoodLaw.{cancels, was_cancelled_lem}
 
 -- each step of a walk reads an action, and what the walk is at its parent; two walks with steps enough are one
@@ -55,7 +55,8 @@ walk_lem {X = X} J less f g base step a = walk_enough J less f g base step a (su
   where
     one : (o : Option ℕ) → parent J a ≡ o → g a (option_map (f a) o) ≡ g a (option_map (λ b. f b b) o)
     one None e = refl
-    one (Some b) e = let l = less a b e in ap (λ (x : X). g a (Some x)) (walk_enough J less f g base step a b b (omega arith) (omega arith))
+    one (Some b) e = let l = less a b e in
+        ap (λ (x : X). g a (Some x)) (walk_enough J less f g base step a b b (omega arith) (omega arith))
 
 map_or : {X : Type 0} (f : ℕ → X) (o : Option ℕ) (d : X) → option_map_or f o d ≡ unwrap_or (option_map f o) d
 map_or f None d = refl

@@ -17,8 +17,9 @@ use Rattle.lra_model.specs.Facts.{facts_of}
 use Rattle.lra_model.specs.Tests.{may_reply}
 use Rattle.lra_model.specs.Rules.{is_legal}
 use Rattle.lra_laws.proofs.Push.{step, asks_push, ask_of_push, is_outstanding_push}
-use Rattle.lra_laws.proofs.Legal.{Allowed, snoc_induction, legal_induction, among_push, member_there_push}
-use Rattle.lra_laws.proofs.Legal.{members_named, members_named_there}
+use Rattle.lra_laws.proofs.Legal.{Allowed, snoc_induction, legal_induction, among_push}
+use Rattle.lra_laws.proofs.Named.{member_there_push}
+use Rattle.lra_laws.proofs.Named.{members_named, members_named_there}
 
 -- an ask that is outstanding is there
 pub outstanding_there : (J : History) (n : ℕ) → is_outstanding J n ≡ true → is_among (asks J) n ≡ true
@@ -61,7 +62,9 @@ ask_of_there J n = snoc_induction (λ K. is_some (ask_of K n) ≡ is_among (asks
         ≡ option_map_or (λ m. m == n) (asked_by d) false
     new K by m (Ask k p kind) = one (k == n)
       where
-        one : (b : Bool) → is_some (when b (let a : Asked = record { number = k; member = p; kind = kind; direction = ask_direction K p kind } in a)) ≡ b
+        one : (b : Bool) → is_some (when b
+            (let a : Asked = record { number = k; member = p; kind = kind; direction = ask_direction K p kind } in a))
+            ≡ b
         one true = refl
         one false = refl
     new K by m _ = refl
@@ -94,7 +97,14 @@ ask_there v t = legal_induction v t (λ J. (n : ℕ) (a : Asked) → ask_of J n 
         × (is_among (members J) a.member ≡ true)
     new J by m (Ask k p kind) there n a h = one (k == n) refl h
       where
-        one : (b : Bool) → (k == n) ≡ b → when b (let x : Asked = record { number = k; member = p; kind = kind; direction = ask_direction J p kind } in x) ≡ Some a → (a.number ≡ n) × (is_among (members J) a.member ≡ true)
+        one : (b : Bool) → (k == n) ≡ b
+            → when b (let x : Asked = record {
+              number = k;
+              member = p;
+              kind = kind;
+              direction = ask_direction J p kind;
+            } in x) ≡ Some a → (a.number ≡ n)
+            × (is_among (members J) a.member ≡ true)
         one true g i =
             let x : Asked = record { number = k; member = p; kind = kind; direction = ask_direction J p kind } in
             let e : x ≡ a = cc in (
@@ -112,7 +122,8 @@ ask_there v t = legal_induction v t (λ J. (n : ℕ) (a : Asked) → ask_of J n 
       where
         either : (o : Option Asked) → ask_of J n ≡ o → option_or o (option_map_or
             (λ (x : Asked). when (x.number == n) x) (asked_at (step J e)) None) ≡ Some a → AskThere (J ++ e ∷ []) n a
-        either (Some y) i j = let old = ih n a (i ∙ j) in record { number = old.number; member = member_there_push J e a.member old.member }
+        either (Some y) i j = let old = ih n a (i ∙ j) in
+            record { number = old.number; member = member_there_push J e a.member old.member }
         either None i j =
             let r = new J e.by e.moment e.deed (members_named_there v t J e.by e.moment e.deed k) n a j in
             record { number = r.0; member = member_there_push J e a.member r.1 }

@@ -21,6 +21,7 @@ pub mod LegalAsks
 pub mod MemberDeeds
 pub mod MemberRows
 pub mod MemberWords
+pub mod Named
 pub mod Nests
 pub mod Push
 pub mod Quiet

@@ -23,7 +23,8 @@ use Rattle.lra_model.specs.Members.{decided, member_status, last_reply, was_answ
 use Rattle.lra_model.specs.Rules.{is_legal}
 use Rattle.lra_laws.proofs.Push.{members_push}
 use Rattle.lra_laws.proofs.Legal.{legal_induction, Allowed, IsNumbered, numbered_among, members_numbered}
-use Rattle.lra_laws.proofs.Legal.{numbered_fresh, member_there_push, joined_there, action_of_new, addresses_of_new}
+use Rattle.lra_laws.proofs.Legal.{numbered_fresh}
+use Rattle.lra_laws.proofs.Named.{member_there_push, joined_there, action_of_new, addresses_of_new}
 use Rattle.lra_laws.proofs.Tested.{both}
 use Rattle.lra_laws.specs.Rows.{Standing, MemberRow, standing, void_asks, member_row, change_row, new_member, place_of}
 use Rattle.lra_laws.specs.Rows.{stands_as}
@@ -181,7 +182,8 @@ stands_alone J n x told ih q h = decide (standing J q) refl
 range_place : (n : ℕ) (g : ℕ → MemberRow) (a k i p : ℕ) → i < k → p ≡ a + i → stands_as n (g p) ≡ true
     → ((q : ℕ) → (p == q) ≡ false → stands_as n (g q) ≡ false) → place_of n (map g (range_with_len a k)) ≡ suc i
 range_place n g a zero i p h e here others = absurd (omega arith)
-range_place n g a (suc k) zero p h e here others = rw (ap (λ (q : ℕ). stands_as n (g q)) (let x : a ≡ p = omega arith in x) ∙ here) refl
+range_place n g a (suc k) zero p h e here others = rw
+    (ap (λ (q : ℕ). stands_as n (g q)) (let x : a ≡ p = omega arith in x) ∙ here) refl
 range_place n g a (suc k) (suc i) p h e here others =
     let ih = range_place n g (a + 1) k i p (omega arith) (omega arith) here others in
     let out : stands_as n (g a) ≡ false = others a (ne_eqb p a (λ x. omega arith)) in

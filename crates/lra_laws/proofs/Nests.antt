@@ -20,7 +20,7 @@ use Rattle.lra_laws.specs.Sheets.{new_depth, new_nest, nests_after}
 use Rattle.lra_laws.proofs.Push.{actions_push, children_push, members_push, members_of_push}
 use Rattle.lra_laws.proofs.GoodLists.{filter_same}
 use Rattle.lra_laws.proofs.Legal.{Allowed, legal_more, IsNumbered, numbered_fresh, actions_numbered, members_numbered}
-use Rattle.lra_laws.proofs.Legal.{parent_of_new, parent_there, action_of_stays, action_of_new, action_of_there}
+use Rattle.lra_laws.proofs.Named.{parent_of_new, parent_there, action_of_stays, action_of_new, action_of_there}
 use Rattle.lra_laws.proofs.RowLists.{eqb_self, eqb_flip, among_apart, map_within, row_there, rows_changed, rows_more}
 use Rattle.lra_laws.proofs.Told.{entry, more, StartTold, JoinTold, Told}
 use Rattle.lra_laws.proofs.ActionWords.{members_by, children_by, is_parent, actions_stay}

@@ -195,7 +195,8 @@ module _ (J : History) (by m : ℕ) (d : Deed) (b : ℕ) (s : ActionStatus) (tur
     where
       either : (x : Bool) → (b == a) ≡ x → turns_left (unwrap_or (option_or (when x s) (action_status J a))
           action.Active) ≤ turns_of J a
-      either true e = let now : turns_left s < turns_of J a = subst (λ (n : ℕ). turns_left s < turns_of J n) (eqb-true b a e) turn.less in omega arith
+      either true e = let now : turns_left s < turns_of J a = subst (λ (n : ℕ). turns_left s < turns_of J n)
+          (eqb-true b a e) turn.less in omega arith
       either false e = omega arith
 
   turn_taken : turns_of (J ++ record { by = by; moment = m; deed = d } ∷ []) b < turns_of J b

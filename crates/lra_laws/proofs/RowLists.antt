@@ -68,7 +68,8 @@ count_filter s f (n ∷ ns) = either (s n) (count_filter s f ns) ∙ sym (count_
 
 pub count_none : {X : Type 0} (f : X → Bool) (xs : List X) → ((x : X) → f x ≡ false) → count_by f xs ≡ 0
 count_none f [] h = refl
-count_none f (x ∷ xs) h = count_cons f x xs ∙ ap (λ (b : Bool). one b + count_by f xs) (h x) ∙ (let k : count_by f xs ≡ 0 = count_none f xs h in omega arith)
+count_none f (x ∷ xs) h = count_cons f x xs ∙ ap (λ (b : Bool). one b + count_by f xs) (h x)
+    ∙ (let k : count_by f xs ≡ 0 = count_none f xs h in omega arith)
 
 not_zero : (n : ℕ) → false ≡ (1 + n == 0)
 not_zero n = sym (ne_eqb (1 + n) 0 (λ e. omega arith))
@@ -126,7 +127,8 @@ range_change : {R : Type 0} (g k : ℕ → R) (a n i p : ℕ) → i < n → p �
     → map k (range_with_len a n) ≡ slice_set (map g (range_with_len a n)) i (k p)
 range_change g k a zero i p h e same = absurd (omega arith)
 range_change {R = R} g k a (suc n) zero p h e same =
-    two (ap k (let x : a ≡ p = omega arith in x)) (rest (a + 1) n (λ q low high. same q (omega arith) (omega arith) (ne_eqb p q (λ x. omega arith))))
+    two (ap k (let x : a ≡ p = omega arith in x))
+    (rest (a + 1) n (λ q low high. same q (omega arith) (omega arith) (ne_eqb p q (λ x. omega arith))))
   where
     two : k a ≡ k p → map k (range_with_len (a + 1) n) ≡ map g (range_with_len (a + 1) n)
         → map k (range_with_len a (suc n)) ≡ k p ∷ map g (range_with_len (a + 1) n)
@@ -209,7 +211,8 @@ row_absent g ns (suc i) h k = ap (λ (ms : List ℕ). slice_get (map g ms) i) h
   where
     past : (i < length ns) ⊎ (length ns ≤ i) → length ns ≤ i
     past (inr x) = x
-    past (inl x) = let there : is_among ns (suc i) ≡ true = numbered_there ns h (suc i) (omega arith) (omega arith) in absurd cc
+    past (inl x) = let there : is_among ns (suc i) ≡ true = numbered_there ns h (suc i) (omega arith) (omega arith) in
+        absurd cc
 
 -- a row changes, and the others stay
 pub rows_changed : {R : Type 0} (f : R → R) (g k : ℕ → R) (ns : List ℕ) (p : ℕ) → IsNumbered ns → is_among ns p ≡ true

@@ -20,7 +20,8 @@ use Rattle.lra_model.specs.Facts.{ActionFacts, MemberFacts, member_facts, facts_
 use Rattle.lra_model.specs.Tests.{at_action, status_is, may_close_with_parent, may_cancel_with_parent, may_skip}
 use Rattle.lra_model.specs.Settling.{may_be_skipped, by_parent, next_settling}
 use Rattle.lra_laws.proofs.Tested.{both}
-use Rattle.lra_laws.proofs.Legal.{Allowed, action_fact, member_fact, at_action_from, at_member_from, status_is_there}
+use Rattle.lra_laws.proofs.Legal.{Allowed, action_fact, member_fact, at_action_from, at_member_from}
+use Rattle.lra_laws.proofs.Named.{status_is_there}
 use Rattle.lra_laws.proofs.Ranges.{action_in_range, member_in_range}
 use Rattle.lra_laws.proofs.Writes.{MayWrite, known_deed, may_write}
 
@@ -130,7 +131,8 @@ end_allowed v t J by m a k h =
         at_action_from (λ (x : ActionFacts). x.settled) J a there h,
         (
           at_action_from
-              (λ (x : ActionFacts). same_status (right_end J a) x.right_end) J a there (same_status_self (right_end J a)),
+              (λ (x : ActionFacts). same_status (right_end J a) x.right_end) J a there
+              (same_status_self (right_end J a)),
           tt,
         ),
       ),

@@ -63,7 +63,8 @@ find_none test (n ∷ ns) none = ap (λ (b : Bool). cond b (Some n) (find test n
 pub find_least : (test : ℕ → Bool) (ns : List ℕ) → IsNumbered ns → ((m : ℕ) → test m ≡ true → is_among ns m ≡ true)
     → (o : Option ℕ) → IsLeast test o → find test ns ≡ o
 find_least test ns numbered there None none = find_none test ns none
-find_least test ns numbered there (Some k) is = let b = numbered_among ns numbered k (there k is.0) in ap (find test) numbered ∙ find_in test 1 (length ns) k is.0 is.1 (omega arith) (omega arith)
+find_least test ns numbered there (Some k) is = let b = numbered_among ns numbered k (there k is.0) in
+    ap (find test) numbered ∙ find_in test 1 (length ns) k is.0 is.1 (omega arith) (omega arith)
 
 -- the first that something is read of
 first_read : {X : Type 0} (f : ℕ → Option X) (ns : List ℕ) → first (filter_map f ns)
@@ -98,7 +99,8 @@ last_in test o a (suc n) k passes greatest low high = either (test a) refl
         decide true e = let g = greatest m e in absurd (omega arith)
 
     ends : a ≡ k → last_or (Some a) (filter_map (kept test) (range_with_len (a + 1) n)) ≡ Some k
-    ends same = ap (last_or (Some a)) (kept_none test (a + 1) n (beyond same)) ∙ ap (λ (m : ℕ). let x : Option ℕ = Some m in x) same
+    ends same = ap (last_or (Some a)) (kept_none test (a + 1) n (beyond same))
+        ∙ ap (λ (m : ℕ). let x : Option ℕ = Some m in x) same
 
     either : (b : Bool) → test a ≡ b → ((q : Option ℕ) → a + 1 ≤ k → last_or q
         (filter_map (kept test) (range_with_len (a + 1) n)) ≡ Some k) → last_or o

@@ -27,8 +27,9 @@ use Rattle.lra_laws.specs.Sheets.{Sheet, asks_made, state_after}
 use Rattle.lra_laws.specs.inner.Concerned.{members_concerned, actions_concerned, around}
 use Rattle.lra_laws.proofs.GoodLists.{among_filter}
 use Rattle.lra_laws.proofs.Push.{step, children_push, members_of_push, ask_of_push}
-use Rattle.lra_laws.proofs.Legal.{allowed, actions_numbered, members_numbered, numbered_fresh, parent_stays}
-use Rattle.lra_laws.proofs.Legal.{parent_there, action_of_stays, action_of_there, children_lem}
+use Rattle.lra_laws.proofs.Legal.{allowed, actions_numbered, members_numbered, numbered_fresh}
+use Rattle.lra_laws.proofs.Named.{parent_stays}
+use Rattle.lra_laws.proofs.Named.{parent_there, action_of_stays, action_of_there, children_lem}
 use Rattle.lra_laws.proofs.RowLists.{row_there, row_absent}
 use Rattle.lra_laws.proofs.ActionWords.{members_by}
 use Rattle.lra_laws.proofs.Told.{entry, more, StartTold, JoinTold, Told, told}
@@ -151,9 +152,12 @@ module _ (v : Version) (t : List ℕ → Bool) (J : History) (l : is_legal v t J
   started_stays m c above limit x =
       moved m (after_deed m (Start c above limit) (at m)) [] (c ∷ option_to_list above)
       (start_stays (new_action c above (new_top (at m) c above) limit m) above (at m) [] (c ∷ option_to_list above)
-      (λ p r e h. let is = member_is p r e in absent r.action (ap (λ (y : MemberRow). is_among (actions J) y.action) is.1 ∙ action_of_there v t J l p is.0) (h ∙ number))
+      (λ p r e h. let is = member_is p r e in
+      absent r.action (ap (λ (y : MemberRow). is_among (actions J) y.action) is.1 ∙ action_of_there v t J l p is.0)
+      (h ∙ number))
       (λ a g h. not_first c (option_to_list above) a g (h ∙ number))
-      (λ a r b e h k. let is = action_is a r e in absent b (parent_there v t J l a b (ap (λ (y : ActionRow). y.parent) (sym is.1) ∙ h)).parent (k ∙ number))
+      (λ a r b e h k. let is = action_is a r e in
+      absent b (parent_there v t J l a b (ap (λ (y : ActionRow). y.parent) (sym is.1) ∙ h)).parent (k ∙ number))
       (λ b e a g. not_listed above b a (not_rest c (option_to_list above) a g) e))
     where
       number : suc (length (map (action_row J) (actions J))) ≡ c
@@ -226,7 +230,8 @@ module _ (v : Version) (t : List ℕ → Bool) (J : History) (l : is_legal v t J
   members_of_same e a none = members_of_push J e a ∙ ap (λ (o : Option ℕ). members_of J a ++ option_to_list o) none
       ∙ append-nil (members_of J a)
 
-  one_push : (e : Entry) (p : ℕ) → is_among (members J) p ≡ true → (let xs : List ℕ = action_of (J ++ e ∷ []) p ∷ [] in xs) ≡ action_of J p ∷ []
+  one_push : (e : Entry) (p : ℕ) → is_among (members J) p ≡ true
+      → (let xs : List ℕ = action_of (J ++ e ∷ []) p ∷ [] in xs) ≡ action_of J p ∷ []
   one_push e p there = ap (λ (a : ℕ). let xs : List ℕ = a ∷ [] in xs) (action_of_stays J e p there)
 
   asked_push : (e : Entry) (n : ℕ) (x : Asked) → ask_of J n ≡ Some x → ask_of (J ++ e ∷ []) n ≡ Some x

@@ -57,7 +57,8 @@ push_allowed v t J by m d l k x = λ i. record {
 -- the sheet of a legal history, after an entry that is allowed
 pub sheet_push : (v : Version) (t : List ℕ → Bool) (J : History) (e : Entry) → is_legal v t J ≡ true → allows v t J e
     ≡ true → sheet_of (J ++ e ∷ []) ≡ sheet_after e (sheet_of J)
-sheet_push v t J e l k = let a = allowed v t J e k in push_allowed v t J e.by e.moment e.deed l a (told v t J e.by e.moment e.deed a)
+sheet_push v t J e l k = let a = allowed v t J e k in
+    push_allowed v t J e.by e.moment e.deed l a (told v t J e.by e.moment e.deed a)
 
 -- so it stands for the longer history
 unfoldable pub StandsFor-push : (s : Sheet) (J : History) (e : Entry) (h : StandsFor s J)

@@ -17,8 +17,9 @@ use Rattle.lra_model.specs.Ends.{action_is}
 use Rattle.lra_model.specs.Rules.{is_legal}
 use Rattle.lra_laws.proofs.GoodWalks.{top_lem}
 use Rattle.lra_laws.proofs.Push.{actions_push, action_status_push, limit_push}
-use Rattle.lra_laws.proofs.Legal.{Allowed, legal_more, numbered_fresh, actions_numbered, parent_stays, parent_of_new}
-use Rattle.lra_laws.proofs.Legal.{parent_there, action_of_there}
+use Rattle.lra_laws.proofs.Legal.{Allowed, legal_more, numbered_fresh, actions_numbered}
+use Rattle.lra_laws.proofs.Named.{parent_stays, parent_of_new}
+use Rattle.lra_laws.proofs.Named.{parent_there, action_of_there}
 use Rattle.lra_laws.specs.Rows.{ActionRow, member_row, action_row, state_of, count_staying, count_children, counts_as}
 use Rattle.lra_laws.specs.Rows.{is_left_to_complete, is_left_to_compensate, is_uncompleted, is_uncompensated}
 use Rattle.lra_laws.specs.Rows.{is_unended, is_uncancelled, one, with_new_child, change_row, new_action, new_top}

@@ -85,7 +85,8 @@ decided_anew direction.Completion outcome.Done false c false (Some outcome.Done)
 decided_anew direction.Completion outcome.Done false c false (Some outcome.Failed) gd h k wc wd = refl
 decided_anew direction.Completion outcome.Done false c false (Some x) gd h k wc wd = absurd cc
 decided_anew direction.Completion outcome.Done false c false None true h k wc wd = refl
-decided_anew direction.Completion outcome.Done false c false None false h k wc wd = absurd (let e : false ≡ true = h refl in cc)
+decided_anew direction.Completion outcome.Done false c false None false h k wc wd = absurd
+    (let e : false ≡ true = h refl in cc)
 decided_anew direction.Completion outcome.Failed true c gc d gd h k wc wd = refl
 decided_anew direction.Completion outcome.Failed false (Some outcome.Done) gc d gd h k wc wd = refl
 decided_anew direction.Completion outcome.Failed false (Some outcome.Failed) gc d gd h k wc wd = refl
@@ -94,19 +95,22 @@ decided_anew direction.Completion outcome.Failed false c false (Some outcome.Don
 decided_anew direction.Completion outcome.Failed false c false (Some outcome.Failed) gd h k wc wd = refl
 decided_anew direction.Completion outcome.Failed false c false (Some x) gd h k wc wd = absurd cc
 decided_anew direction.Completion outcome.Failed false c false None true h k wc wd = refl
-decided_anew direction.Completion outcome.Failed false c false None false h k wc wd = absurd (let e : false ≡ true = h refl in cc)
+decided_anew direction.Completion outcome.Failed false c false None false h k wc wd = absurd
+    (let e : false ≡ true = h refl in cc)
 decided_anew direction.Compensation outcome.Done true c gc d gd h k wc wd = refl
 decided_anew direction.Compensation outcome.Done false (Some outcome.Done) gc d gd h k wc wd = refl
 decided_anew direction.Compensation outcome.Done false (Some outcome.Failed) gc d gd h k wc wd = refl
 decided_anew direction.Compensation outcome.Done false (Some x) gc d gd h k wc wd = absurd cc
 decided_anew direction.Compensation outcome.Done false None true d gd h k wc wd = refl
-decided_anew direction.Compensation outcome.Done false None false d gd h k wc wd = absurd (let e : false ≡ true = k refl in cc)
+decided_anew direction.Compensation outcome.Done false None false d gd h k wc wd = absurd
+    (let e : false ≡ true = k refl in cc)
 decided_anew direction.Compensation outcome.Failed true c gc d gd h k wc wd = refl
 decided_anew direction.Compensation outcome.Failed false (Some outcome.Done) gc d gd h k wc wd = refl
 decided_anew direction.Compensation outcome.Failed false (Some outcome.Failed) gc d gd h k wc wd = refl
 decided_anew direction.Compensation outcome.Failed false (Some x) gc d gd h k wc wd = absurd cc
 decided_anew direction.Compensation outcome.Failed false None true d gd h k wc wd = refl
-decided_anew direction.Compensation outcome.Failed false None false d gd h k wc wd = absurd (let e : false ≡ true = k refl in cc)
+decided_anew direction.Compensation outcome.Failed false None false d gd h k wc wd = absurd
+    (let e : false ≡ true = k refl in cc)
 decided_anew way o l None gc None gd h k wc wd = refl
 decided_anew way o l None gc (Some y) gd h k wc wd = refl
 decided_anew way o l (Some x) gc None gd h k wc wd = refl

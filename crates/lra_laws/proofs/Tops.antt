@@ -11,7 +11,7 @@ use Rattle.lra_model.specs.Actions.{parent, lineage_within, lineage, top, depth}
 use Rattle.lra_model.specs.Rules.{is_legal}
 use Rattle.lra_laws.proofs.Climbs.{top_within, top_climbs}
 use Rattle.lra_laws.proofs.GoodWalks.{lineage_lem, top_lem}
-use Rattle.lra_laws.proofs.Legal.{parent_stays, parent_there}
+use Rattle.lra_laws.proofs.Named.{parent_stays, parent_there}
 
 -- the lineage of an action that is there stays
 lineage_within_stays : (v : Version) (t : List ℕ → Bool) (J : History) (e : Entry) → is_legal v t J ≡ true → (n a : ℕ)

@@ -225,7 +225,9 @@ asked_now v t J by m (Ask k q kind) allow n x h g = numbered (k == n) h
     by_kind ask.Forget i j w = absurd cc
     by_kind ask.After i j w = absurd cc
 
-    numbered : (b : Bool) → when b (let a : Asked = record { number = k; member = q; kind = kind; direction = ask_direction J q kind } in a) ≡ Some x → was_begun (J ++ e ∷ []) x.member ≡ true
+    numbered : (b : Bool) → when b
+        (let a : Asked = record { number = k; member = q; kind = kind; direction = ask_direction J q kind } in a)
+        ≡ Some x → was_begun (J ++ e ∷ []) x.member ≡ true
     numbered false i = absurd cc
     numbered true i =
         let a : Asked = record { number = k; member = q; kind = kind; direction = ask_direction J q kind } in
@@ -266,7 +268,10 @@ replied_begun v t = legal_induction v t RepliedBegun (λ p h. absurd cc) push
     new J begun by m (Reply n o) p h = by_ask (ask_of J n) refl h
       where
         by_ask : (x : Option Asked) → ask_of J n ≡ x
-            → is_some (option_map_or (λ (r : Replied). when ((r.to.member == p) && same_direction r.to.direction direction.Completion) r.outcome) (option_map (λ (a : Asked). let r : Replied = record { to = a; outcome = o; moment = m } in r) x) None) ≡ true → was_begun J p ≡ true
+            → is_some (option_map_or (λ (r : Replied). when
+            ((r.to.member == p) && same_direction r.to.direction direction.Completion) r.outcome)
+            (option_map (λ (a : Asked). let r : Replied = record { to = a; outcome = o; moment = m } in r) x) None)
+            ≡ true → was_begun J p ≡ true
         by_ask None g i = absurd cc
         by_ask (Some a) g i = by_member (a.member == p) refl (same_direction a.direction direction.Completion) refl i
           where

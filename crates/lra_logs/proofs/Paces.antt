@@ -99,9 +99,11 @@ fits_by : (none one two u : Bool) (p : Pace) → nat_lt p.written 100 ≡ one �
     → p.written ≤ 100
     → p.written + lines u (chosen none one two u p.suppressed) ≤ 100
 unfolding chosen
-fits_by true true two u p e f h = let room : p.written < 100 = grind (arith, nat_tests) in omega (arith, room, share_fits u)
+fits_by true true two u p e f h = let room : p.written < 100 = grind (arith, nat_tests) in
+    omega (arith, room, share_fits u)
 fits_by true false two u p e f h = none_fits p u h
-fits_by false one true u p e f h = let room : p.written + share u < 100 = grind (arith, nat_tests) in omega (arith, room)
+fits_by false one true u p e f h = let room : p.written + share u < 100 = grind (arith, nat_tests) in
+    omega (arith, room)
 fits_by false one false u p e f h = none_fits p u h
 
 fits : (p : Pace) (u : Bool) → p.written ≤ 100 → p.written + lines u (verdict_at p u) ≤ 100

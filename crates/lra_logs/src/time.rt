@@ -32,7 +32,8 @@ fn clock_text(alloc: Global, moment: u64) -> Result<String, Memory>
 
 /// The text of a moment of a date.
 fn spelled(alloc: Global, date: Date, moment: u64) -> Result<String, Memory>
-    ensures { IfOk result (λ text. string_bytes text ≡ spec.date_text date ++ (codes "T" ++ (spec.clock_text moment ++ codes "Z"))) }
+    ensures { IfOk result (λ text. string_bytes text ≡ spec.date_text date
+        ++ (codes "T" ++ (spec.clock_text moment ++ codes "Z"))) }
 {
     let date = date_text(alloc, date)?;
     let clock = clock_text(alloc, moment)?;

@@ -29,11 +29,20 @@ begun order flags start = record {
 pub kept : (order : Order) (flags : List Bool) (start place : ℕ) (d : Deadline) → IsBest order flags start place d
     → (flag flags place ≡ true → d.moment ≤ key order (place + 1)) → IsBest order flags start (place + 1) d
 kept order flags start place d best early = record {
-  real = λ h. let r = best.real h in record { place = r.place; here = r.here; above = r.above; below = omega (arith, r.below); number = r.number; moment = r.moment };
+  real = λ h. let r = best.real h in
+      record {
+        place = r.place;
+        here = r.here;
+        above = r.above;
+        below = omega (arith, r.below);
+        number = r.number;
+        moment = r.moment;
+      };
   none = best.none;
   least = λ k above below marked. elim (cases_lt k place) [
     | inl inside ↦ best.least k above inside marked
-    | inr past ↦ let same : place ≡ k = omega arith in subst (λ j. d.moment ≤ key order (j + 1)) same (early (subst (λ j. flag flags j ≡ true) (sym same) marked))
+    | inr past ↦ let same : place ≡ k = omega arith in
+        subst (λ j. d.moment ≤ key order (j + 1)) same (early (subst (λ j. flag flags j ≡ true) (sym same) marked))
   ];
 }
 
@@ -46,7 +55,8 @@ taken order flags start place d few from here early best = record {
   none = λ h. let real = lt-ltb (place + 1) (2 ^ 64 - 1) (omega arith) in absurd cc;
   least = λ k above below marked. elim (cases_lt k place) [
     | inl inside ↦ let old = best.least k above inside marked in omega arith
-    | inr past ↦ let same : place ≡ k = omega arith in subst (λ j. key order (place + 1) ≤ key order (j + 1)) same (omega arith)
+    | inr past ↦ let same : place ≡ k = omega arith in
+        subst (λ j. key order (place + 1) ≤ key order (j + 1)) same (omega arith)
   ];
 }
 
@@ -55,7 +65,15 @@ moved : (order : Order) (flags gs : List Bool) (start end : ℕ) (d : Deadline)
     → ((k : ℕ) → start ≤ k → k < end → flag gs k ≡ flag flags k) → IsBest order flags start end d
     → IsBest order gs start end d
 moved order flags gs start end d same best = record {
-  real = λ h. let r = best.real h in record { place = r.place; here = same r.place r.above r.below ∙ r.here; above = r.above; below = r.below; number = r.number; moment = r.moment };
+  real = λ h. let r = best.real h in
+      record {
+        place = r.place;
+        here = same r.place r.above r.below ∙ r.here;
+        above = r.above;
+        below = r.below;
+        number = r.number;
+        moment = r.moment;
+      };
   none = best.none;
   least = λ k above below marked. best.least k above below (sym (same k above below) ∙ marked);
 }
@@ -86,7 +104,8 @@ changed order flags gs leaves ls b are same others written wide tight = record {
       | inl less ↦ other c there (inl less) (λ k above below. same k (inl (omega arith)))
       | inr most ↦ elim (cases_lt b c) [
         | inl more ↦ other c there (inr more) (λ k above below. same k (inr (omega arith)))
-        | inr least ↦ let e : b ≡ c = omega arith in subst (λ x. IsWritten order gs x (node ls x)) e (written (subst (λ x. x < length ls) (sym e) there))
+        | inr least ↦ let e : b ≡ c = omega arith in
+            subst (λ x. IsWritten order gs x (node ls x)) e (written (subst (λ x. x < length ls) (sym e) there))
       ]
     ]
 
@@ -155,7 +174,8 @@ block k =
     let few = mod-lt k {m = 8} (omega arith) in
     record { above = omega arith; below = omega arith }
 
-module _ (order : Order) (flags : List Bool) (leaves : List Deadline) (few : length flags < 2 ^ 63) (are : AreLeaves order flags leaves) where
+module _ (order : Order) (flags : List Bool) (leaves : List Deadline) (few : length flags < 2 ^ 63)
+    (are : AreLeaves order flags leaves) where
   -- a marked place is there
   within : (k : ℕ) → flag flags k ≡ true → k < length flags
   within k marked = elim (cases_lt k (length flags)) [

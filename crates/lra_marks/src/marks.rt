@@ -1,4 +1,26 @@
-ghost use Rattle.std.specs.Prelude.{◌≡◌, ◌+◌, ◌*◌, ◌-◌, ◌^◌, ◌≤◌, ◌<◌, ◌∷◌, ◌++◌, [], ℕ, List, Bool, length, slice_set, vec_len, vec_capacity, IsOk, IfSome, IfNone, OnOk};
+ghost use Rattle.std.specs.Prelude.{
+  ◌≡◌,
+  ◌+◌,
+  ◌*◌,
+  ◌-◌,
+  ◌^◌,
+  ◌≤◌,
+  ◌<◌,
+  ◌∷◌,
+  ◌++◌,
+  [],
+  ℕ,
+  List,
+  Bool,
+  length,
+  slice_set,
+  vec_len,
+  vec_capacity,
+  IsOk,
+  IfSome,
+  IfNone,
+  OnOk,
+};
 ghost use Rattle.lra_marks.specs.Marks.{mark_at, IsFirstMarked, NoneMarked};
 ghost use Rattle.lra_marks.specs.inner.Leaves.{key, flag, is_mark, IsBest, IsWritten};
 

@@ -110,7 +110,8 @@ fault_stopped : (r : OfficeRefusal) → fault_of r ≡ counter.Refused Stopped �
 fault_stopped (office.Refused q) e = let same : q ≡ Stopped = cc in ap office.Refused same
 fault_stopped office.Worn e = absurd cc
 
-module _ {X O : Type 0} (set : O → Setting) (origin : X → O) (history : X → History) (lawful : X → Type 0) (has_stopped : X → Bool) where
+module _ {X O : Type 0} (set : O → Setting) (origin : X → O) (history : X → History) (lawful : X → Type 0)
+    (has_stopped : X → Bool) where
   pub keeps_done : (before after : Sight) (m : ℕ) (o : Order) (t : Told) → KeepsHistory before m o (Ok t) after
       → KeepsInTurn set origin history lawful has_stopped before m o (Ok t) after
   keeps_done before after m o t h = record { keeps = h; stops = λ e. absurd cc }
@@ -121,5 +122,6 @@ module _ {X O : Type 0} (set : O → Setting) (origin : X → O) (history : X �
       → KeepsInTurn set origin history lawful has_stopped before m o (Err f) (sight (set w.origin) k w.seen)
   keeps_refused before m k o r f w h stopped is = record {
     keeps = subst (λ (x : CounterFault). KeepsHistory before m o (Err x) (sight (set w.origin) k w.seen)) (sym is) h;
-    stops = λ e. let same : f ≡ counter.Refused Stopped = cc in (w, refl, refl, stopped (fault_stopped r (sym is ∙ same)));
+    stops = λ e. let same : f ≡ counter.Refused Stopped = cc in
+        (w, refl, refl, stopped (fault_stopped r (sym is ∙ same)));
   }

@@ -38,9 +38,12 @@ settling_enrols_none (suc n) by m J = next (next_settling J) refl (λ K. settlin
   where
     next : (o : Option Deed) → next_settling J ≡ o → ((K : History) → filter_map enrolled_by (settling_within n by m K)
         ≡ [])
-        → filter_map enrolled_by (option_map_or (λ (d : Deed). (let e : Entry = record { by = by; moment = m; deed = d } in e) ∷ settling_within n by m (J ++ (let e : Entry = record { by = by; moment = m; deed = d } in e) ∷ [])) o []) ≡ []
+        → filter_map enrolled_by (option_map_or
+        (λ (d : Deed). (let e : Entry = record { by = by; moment = m; deed = d } in e) ∷ settling_within n by m
+        (J ++ (let e : Entry = record { by = by; moment = m; deed = d } in e) ∷ [])) o []) ≡ []
     next None g rest = refl
-    next (Some d) g rest = rw (enrols_none by m d (next_settles J d g)) (rest (J ++ (let e : Entry = record { by = by; moment = m; deed = d } in e) ∷ []))
+    next (Some d) g rest = rw (enrols_none by m d (next_settles J d g))
+        (rest (J ++ (let e : Entry = record { by = by; moment = m; deed = d } in e) ∷ []))
 
 -- the clerks after it
 pub enrolled_clerks : (s : Terms) (J : History) (m : ℕ) → clerks (J ++ block s J (enrolment m)) ≡ clerks J

@@ -24,16 +24,18 @@ new_origin instance base limits had =
     }
 
 -- a new office of an origin, and its first pass, which has no number yet and has seen that there is no entry
-pub record IsFirst {X : Type 0} {g : Ghosts X Origin} (o : Origin) (office : OfficeOf X Origin) (pass : Pass X Origin g) : Type 0 where
+pub record IsFirst {X : Type 0} {g : Ghosts X Origin} (o : Origin) (office : OfficeOf X Origin)
+    (pass : Pass X Origin g) : Type 0 where
   pub lock : pass_id pass ≡ lock_id office.lock
   pub view : pass_view pass ≡ first_view 0 o []
   pub copies : IsOfficeOf o.setting office
 
 -- a writer that took the beginning of a text, cut short
-pub record IsCutShort {W : Type 0} (contents : W → Option (List ℕ)) (before : W) (text : List ℕ) (after : W) : Type 0 where
-  pub count : ℕ
-  pub short : count < length text
-  pub grown : Appends (contents before) (contents after) (take count text)
+pub record IsCutShort {W : Type 0} (contents : W → Option (List ℕ)) (before : W) (text : List ℕ) (after : W) : Type 0
+  where
+    pub count : ℕ
+    pub short : count < length text
+    pub grown : Appends (contents before) (contents after) (take count text)
 
 -- why no new office is made: its header was cut short, and the writer comes back; or no memory was left
 abbrev pub IsNotStarted : {W : Type 0} → (W → Option (List ℕ)) → W → List ℕ → StartFault → Option W → Type 0

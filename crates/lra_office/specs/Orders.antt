@@ -44,7 +44,8 @@ abbrev pub met_view : {O : Type 0} → View O → History → View O
 met_view v J = record v { seen = J; place = Idle }
 
 -- a call was done
-pub record IsGrown {O : Type 0} (g : Setting) (v : View O) (c : Call) (t : Told) (e : Option Asking) (w : View O) : Type 0 where
+pub record IsGrown {O : Type 0} (g : Setting) (v : View O) (c : Call) (t : Told) (e : Option Asking)
+    (w : View O) : Type 0 where
   pub history : History
   pub met : IsMet g v history
   pub done : IsDone g history c t e (history ++ growth (terms_of g) history c)
@@ -52,7 +53,8 @@ pub record IsGrown {O : Type 0} (g : Setting) (v : View O) (c : Call) (t : Told)
   pub after : w ≡ grown_view v history (growth (terms_of g) history c)
 
 -- a query was answered at a history that it met, and nothing was changed
-pub record IsAnswered {O : Type 0} (g : Setting) (v : View O) (q : Query) (answer : Result Known Refusal) (w : View O) : Type 0 where
+pub record IsAnswered {O : Type 0} (g : Setting) (v : View O) (q : Query) (answer : Result Known Refusal)
+    (w : View O) : Type 0 where
   pub history : History
   pub met : IsMet g v history
   pub told : answer ≡ tell g.limits history q

@@ -10,8 +10,9 @@ use Rattle.lra_office.specs.Desks.{IsDesk}
 
 -- the coordinator and the scribe, as the clerk that ended the office finds them: of its origin and lawful, with all
 -- that it had seen, and nothing under its number but its own entries
-pub record IsShut {W : Type 0} (contents : W → Option (List ℕ)) (v : View Origin) (c : Shape) (s : Progress W) : Type 0 where
-  pub desk : IsDesk v.origin c (contents s.writer) s.count s.is_stopped
-  pub setting : c.setting ≡ v.origin.setting
-  pub begins : IsPrefix v.seen c.history
-  pub own : entries_by v.number c.history ≡ v.mine
+pub record IsShut {W : Type 0} (contents : W → Option (List ℕ)) (v : View Origin) (c : Shape) (s : Progress W) : Type 0
+  where
+    pub desk : IsDesk v.origin c (contents s.writer) s.count s.is_stopped
+    pub setting : c.setting ≡ v.origin.setting
+    pub begins : IsPrefix v.seen c.history
+    pub own : entries_by v.number c.history ≡ v.mine

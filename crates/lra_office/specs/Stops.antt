@@ -15,7 +15,8 @@ use Rattle.lra_office.specs.Serves.{IsServed, IsStopped}
 
 -- a value that was handed out at a turn and given back: lawful, of the origin that is known, and with just the history
 -- that is known since; its scribe has stopped
-pub record HasStopped {X O : Type 0} (origin : X → O) (history : X → History) (lawful : X → Type 0) (has_stopped : X → Bool) (v : View O) : Type 0 where
+pub record HasStopped {X O : Type 0} (origin : X → O) (history : X → History) (lawful : X → Type 0)
+    (has_stopped : X → Bool) (v : View O) : Type 0 where
   pub value : X
   pub lawful_now : lawful value
   pub same_origin : origin value ≡ v.origin

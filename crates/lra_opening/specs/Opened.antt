@@ -17,7 +17,8 @@ use Rattle.lra_office.specs.Windows.{IsOfficeOf}
 use Rattle.lra_office.specs.Wholes.{whole_lines}
 
 -- a new office of an origin, and its first clerk, which has enrolled
-pub record IsBegun {X : Type 0} {g : Ghosts X Origin} (o : Origin) (moment : ℕ) (office : OfficeOf X Origin) (clerk : Clerk X Origin g) : Type 0 where
+pub record IsBegun {X : Type 0} {g : Ghosts X Origin} (o : Origin) (moment : ℕ) (office : OfficeOf X Origin)
+    (clerk : Clerk X Origin g) : Type 0 where
   pub known : IsClerkOf office.lock has_text clerk
   pub copies : IsOfficeOf o.setting office
   pub enrolled : IsEnrolled o.setting (first_view 0 o []) moment clerk.number (clerk_view clerk)

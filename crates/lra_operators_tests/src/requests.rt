@@ -8,7 +8,8 @@ use std::alloc::Global;
 /// The word of the forms, which would be markup if it stood bare.
 const TOKEN: &str = "\"><script>'&";
 
-/// Requests behind `|`, with `~` for each line's end; below each what its reply has, behind how many orders it gave, or has not, behind `!`. The service asks for no key.
+/// Requests behind `|`, with `~` for each line's end; below each what its reply has, behind how many orders it gave, or
+/// has not, behind `!`. The service asks for no key.
 const OPEN: &str = r##"|GET /metrics HTTP/1.1~Host: 127.0.0.1~~
 0 HTTP/1.1 200 OK
 Content-Type: text/plain; version=0.0.4; charset=utf-8

@@ -62,9 +62,11 @@ s_cancel i token k a s y = skip_by (cancel_at i token k a s) y (r_cancel i token
 abbrev form_of : ℕ → List ℕ → Bool → ℕ → List ℕ → List ℕ → List ℕ
 form_of i token k p question ending =
     joined
-    (joined (codes "<details><summary>Give up</summary><form method=\"post\" action=\"/members/" ∷ id_of i p ∷ codes "/give-up\">" ∷ question ∷ [])
+    (joined (codes "<details><summary>Give up</summary><form method=\"post\" action=\"/members/" ∷ id_of i p
+    ∷ codes "/give-up\">" ∷ question ∷ [])
     ∷ fields token k
-    ∷ joined (codes "<input type=\"hidden\" name=\"status\" value=\"" ∷ ending ∷ codes "\"><button>Yes, give up</button></form></details>" ∷ [])
+    ∷ joined (codes "<input type=\"hidden\" name=\"status\" value=\"" ∷ ending
+    ∷ codes "\"><button>Yes, give up</button></form></details>" ∷ [])
     ∷ []
     )
 

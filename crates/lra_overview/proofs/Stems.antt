@@ -7,4 +7,5 @@ use Rattle.lra_overview.specs.Health.{stem}
 -- what `{:015x}` writes
 pub written : (i : ℕ) → padded_integral (format_spec 32 0 4 15 (2 ^ 64 - 1)) false [] (digits 16 false i) ≡ stem i
 unfolding padded_integral char_count stem
-written i = let e : 15 - length (digits 16 false i) - 0 - 0 ≡ 15 - length (digits 16 false i) = omega arith in rw (append-nil (digits 16 false i), e) refl
+written i = let e : 15 - length (digits 16 false i) - 0 - 0 ≡ 15 - length (digits 16 false i) = omega arith in
+    rw (append-nil (digits 16 false i), e) refl

@@ -165,7 +165,8 @@ standing facts = option_map_or journal_standing facts.standing []
 
 -- whether all threads go on, and whose callbacks stand still where they don't
 abbrev pub threads : Facts → List ℕ
-threads facts = joined (check (codes "threads") (has_threads facts) ∷ codes ",\"data\":{" ∷ lost facts ∷ standing facts ∷ codes "}}" ∷ [])
+threads facts = joined (check (codes "threads") (has_threads facts) ∷ codes ",\"data\":{" ∷ lost facts ∷ standing facts
+    ∷ codes "}}" ∷ [])
 
 -- how long the sync under way has taken, and how long it may
 abbrev pub ages : Facts → List ℕ
@@ -178,7 +179,8 @@ sync facts = joined (check (codes "sync") (syncs_in_time facts) ∷ codes ",\"da
 
 -- what is told beside of whether a worker is behind the set of journals: why that is
 abbrev pub set_data : Facts → List ℕ
-set_data facts = cond facts.lags (codes ",\"data\":{\"reason\":\"a worker can't follow a change of the set of journals\"}}") (codes "}")
+set_data facts = cond facts.lags
+    (codes ",\"data\":{\"reason\":\"a worker can't follow a change of the set of journals\"}}") (codes "}")
 
 -- that a worker is behind the set of journals, or that none is
 abbrev pub set : Facts → List ℕ
@@ -211,4 +213,5 @@ checks probe.Started facts answered = started
 -- the health of a service, as a probe asks for it
 unfoldable pub health : Probe → Facts → Option Answered → List ℕ
 health p facts answered =
-    joined (codes "{\"status\":\"" ∷ word (is_up p facts answered) ∷ codes "\",\"checks\":[" ∷ checks p facts answered ∷ codes "]}\n" ∷ [])
+    joined (codes "{\"status\":\"" ∷ word (is_up p facts answered) ∷ codes "\",\"checks\":[" ∷ checks p facts answered
+    ∷ codes "]}\n" ∷ [])

@@ -26,7 +26,8 @@ number (Some n) = decimal n
 -- what an action's object begins with: its identifier, how it stands, and the one that it is nested in
 abbrev pub action_fields : ℕ → ActionRow → List ℕ
 action_fields i r =
-    joined (codes "{\"action\":\"" ∷ id_of i r.action ∷ codes "\",\"status\":\"" ∷ action_status_name r.status ∷ codes "\",\"parent\":" ∷ [])
+    joined (codes "{\"action\":\"" ∷ id_of i r.action ∷ codes "\",\"status\":\"" ∷ action_status_name r.status
+    ∷ codes "\",\"parent\":" ∷ [])
 
 -- an action of a list
 abbrev pub row : ℕ → ActionRow → List ℕ
@@ -46,12 +47,14 @@ abbrev pub want : Option Want → List ℕ
 want None = codes "null"
 want (Some w) =
     joined
-    (codes "{\"kind\":\"" ∷ ask_kind_name w.kind ∷ codes "\",\"repeats\":" ∷ decimal w.repeats ∷ codes ",\"due\":" ∷ decimal w.due ∷ codes "}" ∷ [])
+    (codes "{\"kind\":\"" ∷ ask_kind_name w.kind ∷ codes "\",\"repeats\":" ∷ decimal w.repeats ∷ codes ",\"due\":"
+    ∷ decimal w.due ∷ codes "}" ∷ [])
 
 -- what a member's object begins with: its identifier and how it stands
 abbrev pub member_fields : ℕ → MemberRow → List ℕ
 member_fields i m =
-    joined (codes "{\"member\":\"" ∷ id_of i m.member ∷ codes "\",\"status\":\"" ∷ member_status_name m.status ∷ codes "\",\"ask\":" ∷ [])
+    joined (codes "{\"member\":\"" ∷ id_of i m.member ∷ codes "\",\"status\":\"" ∷ member_status_name m.status
+    ∷ codes "\",\"ask\":" ∷ [])
 
 -- the last callback of a member that hasn't brought it further
 abbrev pub last : Option Tried → List ℕ
@@ -95,7 +98,8 @@ awaited i (Some (wanted.Action a)) = joined (codes "{\"action\":\"" ∷ id_of i 
 
 -- a page of a list of actions, with the action to go on from, if there may be more
 unfoldable pub actions : ℕ → List ActionRow → Option ℕ → List ℕ
-actions i rs next = joined (codes "{\"actions\":[" ∷ rows i true rs ∷ codes "],\"next\":" ∷ maybe i next ∷ codes "}\n" ∷ [])
+actions i rs next = joined (codes "{\"actions\":[" ∷ rows i true rs ∷ codes "],\"next\":" ∷ maybe i next
+    ∷ codes "}\n" ∷ [])
 
 -- what is told of an action before its members
 abbrev pub head : ℕ → Waiting → List ℕ
@@ -109,4 +113,5 @@ cut is_cut = cond is_cut (codes "],\"cut\":true}\n") (codes "],\"cut\":false}\n"
 unfoldable pub action : ℕ → Waiting → List Line → List ActionRow → Bool → List ℕ
 action i w ms nested is_cut =
     joined
-    (head i w ∷ codes ",\"members\":[" ∷ members i true ms ∷ codes "],\"nested\":[" ∷ rows i true nested ∷ cut is_cut ∷ [])
+    (head i w ∷ codes ",\"members\":[" ∷ members i true ms ∷ codes "],\"nested\":[" ∷ rows i true nested
+    ∷ cut is_cut ∷ [])

@@ -45,7 +45,8 @@ fields token needs_key =
 abbrev pub cancel_form : ℕ → List ℕ → Bool → ℕ → List ℕ
 cancel_form i token have_key a =
     joined
-    (joined (codes "<details><summary>Cancel</summary><form method=\"post\" action=\"/actions/" ∷ id_of i a ∷ codes "/cancel\">Cancel it, and all that is nested in it?" ∷ [])
+    (joined (codes "<details><summary>Cancel</summary><form method=\"post\" action=\"/actions/" ∷ id_of i a
+    ∷ codes "/cancel\">Cancel it, and all that is nested in it?" ∷ [])
     ∷ fields token have_key
     ∷ codes "<button>Yes, cancel</button></form></details>"
     ∷ []
@@ -64,9 +65,11 @@ cancel i token have_key row = cancel_at i token have_key row.action row.status
 abbrev pub give_up_form : ℕ → List ℕ → ℕ → List ℕ → List ℕ → List ℕ
 give_up_form i token p question ending =
     joined
-    (joined (codes "<details><summary>Give up</summary><form method=\"post\" action=\"/members/" ∷ id_of i p ∷ codes "/give-up\">" ∷ question ∷ [])
+    (joined (codes "<details><summary>Give up</summary><form method=\"post\" action=\"/members/" ∷ id_of i p
+    ∷ codes "/give-up\">" ∷ question ∷ [])
     ∷ fields token true
-    ∷ joined (codes "<input type=\"hidden\" name=\"status\" value=\"" ∷ ending ∷ codes "\"><button>Yes, give up</button></form></details>" ∷ [])
+    ∷ joined (codes "<input type=\"hidden\" name=\"status\" value=\"" ∷ ending
+    ∷ codes "\"><button>Yes, give up</button></form></details>" ∷ [])
     ∷ []
     )
 
@@ -121,7 +124,8 @@ awaited_member i p (Some n) = joined (codes "member <code>" ∷ id_of i p ∷ co
 -- what an action waits for
 abbrev pub awaited : ℕ → Option Awaited → List ℕ
 awaited i None = codes "its end"
-awaited i (Some (wanted.Action a)) = joined (codes "action <a href=\"/page/actions/" ∷ id_of i a ∷ codes "\"><code>" ∷ id_of i a ∷ codes "</code></a>" ∷ [])
+awaited i (Some (wanted.Action a)) = joined
+    (codes "action <a href=\"/page/actions/" ∷ id_of i a ∷ codes "\"><code>" ∷ id_of i a ∷ codes "</code></a>" ∷ [])
 awaited i (Some (wanted.Member p ask)) = awaited_member i p ask
 
 -- what an action's line begins with: its identifier, as a link to its page, and how it stands
@@ -227,7 +231,8 @@ abbrev pub next : ℕ → Option ActionStatus → Option ℕ → List ℕ
 next i state None = []
 next i None (Some a) = joined (codes "<p><a href=\"/?from=" ∷ id_of i a ∷ codes "\">Those after these</a></p>\n" ∷ [])
 next i (Some s) (Some a) =
-    joined (codes "<p><a href=\"/?state=" ∷ action_status_name s ∷ codes "&amp;from=" ∷ id_of i a ∷ codes "\">Those after these</a></p>\n" ∷ [])
+    joined (codes "<p><a href=\"/?state=" ∷ action_status_name s ∷ codes "&amp;from=" ∷ id_of i a
+    ∷ codes "\">Those after these</a></p>\n" ∷ [])
 
 -- how many members hold up ends
 abbrev pub overdue : Overdue → List ℕ
@@ -247,11 +252,13 @@ overdue o =
 abbrev pub title : Option ActionStatus → List ℕ
 title None = codes "<h2>Not ended, the oldest first</h2>\n"
 title (Some s) =
-    joined (codes "<h2>" ∷ action_status_name s ∷ codes ", the oldest first</h2>\n<p><a href=\"/\">Those that have not ended</a></p>\n" ∷ [])
+    joined (codes "<h2>" ∷ action_status_name s
+    ∷ codes ", the oldest first</h2>\n<p><a href=\"/\">Those that have not ended</a></p>\n" ∷ [])
 
 -- what the first page counts, and which actions it lists
 abbrev pub counts : Home → List ℕ
-counts h = joined (codes "<ul class=\"counts\">\n" ∷ flat_map share h.shares.now ∷ overdue h.overdue ∷ title h.state ∷ [])
+counts h = joined (codes "<ul class=\"counts\">\n" ∷ flat_map share h.shares.now ∷ overdue h.overdue
+    ∷ title h.state ∷ [])
 
 -- the first page: counts by status, and the actions that haven't ended, or those of a status
 unfoldable pub home : ℕ → List ℕ → List ℕ → Bool → Home → List ℕ
@@ -352,7 +359,8 @@ heading i w =
 -- which action it is nested in, if it is
 abbrev pub parent : ℕ → Option ℕ → List ℕ
 parent i None = []
-parent i (Some a) = joined (codes "<p>Nested in <a href=\"/page/actions/" ∷ id_of i a ∷ codes "\"><code>" ∷ id_of i a ∷ codes "</code></a></p>\n" ∷ [])
+parent i (Some a) = joined (codes "<p>Nested in <a href=\"/page/actions/" ∷ id_of i a ∷ codes "\"><code>" ∷ id_of i a
+    ∷ codes "</code></a></p>\n" ∷ [])
 
 -- an action's page: how it stands, its tree as a picture, and the members of all that is shown
 unfoldable pub action : ℕ → List ℕ → List ℕ → Bool → Waiting → List Node → List Line → List ℕ

@@ -1,6 +1,14 @@
 //! The laws of pages: public functions that do nothing, whose contracts say what follows from the definitions.
 
-ghost use Rattle.lra_overview.specs.Marks.{HomeKeepsMarks, ActionKeepsMarks, ReplyKeepsMarks, PlainKeepsMarks, HomeRefers, ActionRefers, PlainRefers};
+ghost use Rattle.lra_overview.specs.Marks.{
+  HomeKeepsMarks,
+  ActionKeepsMarks,
+  ReplyKeepsMarks,
+  PlainKeepsMarks,
+  HomeRefers,
+  ActionRefers,
+  PlainRefers,
+};
 
 /// Which marks a page has, by which markup and quoted values are told, depends on no text from elsewhere: each page has
 /// the same ones, in the same order, whatever the base of the coordinator is, the token of the forms, the address and

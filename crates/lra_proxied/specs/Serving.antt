@@ -17,10 +17,11 @@ pub record Served (S : Type 0) : Type 0 where
 
 module _ {S : Type 0} (base_of : S → List ℕ) (responds : S → ℕ → Request → Answered → S → Type 0) where
   -- a request that this one means is answered
-  pub record Answers (before : Served S) (moment : ℕ) (request : Request) (answered : Answered) (after : S) : Type 0 where
-    pub meant : Request
-    pub means : Means (base_of before.inner) before.olders request meant
-    pub does : responds before.inner moment meant answered after
+  pub record Answers (before : Served S) (moment : ℕ) (request : Request) (answered : Answered) (after : S) : Type 0
+    where
+      pub meant : Request
+      pub means : Means (base_of before.inner) before.olders request meant
+      pub does : responds before.inner moment meant answered after
 
   -- memory was refused in making it, and nothing was done
   pub record Refuses (before : Served S) (request : Request) (answered : Answered) (after : S) : Type 0 where
@@ -41,7 +42,8 @@ module _ {S : Type 0} (base_of : S → List ℕ) (responds : S → ℕ → Reque
 
   -- What a request at a moment does: it is kept out; or what the one does that it means, unless memory was refused in
   -- making that. The older bases stay.
-  pub record Responds (before : Served S) (moment : ℕ) (request : Request) (answered : Answered) (after : Served S) : Type 0 where
+  pub record Responds (before : Served S) (moment : ℕ) (request : Request) (answered : Answered)
+      (after : Served S) : Type 0 where
     pub olders : after.olders ≡ before.olders
     pub is_strict : after.is_strict ≡ before.is_strict
     pub inner : (IsTrue (keeps_out before request) × Denies before answered after.inner)

@@ -1,6 +1,20 @@
 //! Bodies in which an identifier under an older base stands.
 
-ghost use Rattle.std.specs.Prelude.{◌≡◌, ◌≢◌, ◌≤◌, ◌<◌, [], length, option_map, option_and_then, string_bytes, IfOk, IfSome, OnSome, OnErr};
+ghost use Rattle.std.specs.Prelude.{
+  ◌≡◌,
+  ◌≢◌,
+  ◌≤◌,
+  ◌<◌,
+  [],
+  length,
+  option_map,
+  option_and_then,
+  string_bytes,
+  IfOk,
+  IfSome,
+  OnSome,
+  OnErr,
+};
 ghost use Rattle.serde_json.specs.Data.{depth, put, string};
 ghost use Rattle.serde_json.specs.Find.{as_object, as_str, get};
 ghost use Rattle.serde_json.specs.Read.{max_depth};
@@ -38,7 +52,8 @@ fn other_under(
     value: &Value,
 ) -> Result<Option<String>, Memory>
     ensures { IfOk result (λ other. option_map string_bytes other
-        ≡ option_and_then (texts.other_text base.now olders.now) (option_and_then as_str (get key.now (view value.now)))) }
+        ≡ option_and_then (texts.other_text base.now olders.now)
+        (option_and_then as_str (get key.now (view value.now)))) }
 {
     match value.get(key) {
         Some(member) => match member.as_str() {

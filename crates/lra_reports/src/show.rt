@@ -5,7 +5,14 @@ ghost use Rattle.std.specs.List.{flat_map};
 ghost use Rattle.std.specs.Io.KnownBytes.{Appends};
 ghost use Rattle.lra_audits.specs.Faults.{NamesNoLine, IsMeasured, LeavesOutput, IsOfOutput};
 ghost use Rattle.lra_reports.specs.Paging.{IsPaged};
-ghost use Rattle.lra_reports.specs.Show.{action_line, member_line, listing_text, account_text, account_status, ReportsListing};
+ghost use Rattle.lra_reports.specs.Show.{
+  action_line,
+  member_line,
+  listing_text,
+  account_text,
+  account_status,
+  ReportsListing,
+};
 
 use crate::input::list_input;
 use crate::output::put_line;

@@ -56,7 +56,8 @@ turned old new turn (Ok u) e = subst (λ (g : History). Turned old g turn) (sym 
 turned old new turn (Err f) e = subst (λ (g : History). Turned old g turn) (sym e)
     (record { turns = refl; taken = refl; sent = refl; closed = refl; instance = refl; base = refl })
 
-module _ {S K : Type 0} (base_of : S → List ℕ) (responds : S → ℕ → Request → Answered → S → Type 0) (tells : K → ℕ → K → Type 0) where
+module _ {S K : Type 0} (base_of : S → List ℕ) (responds : S → ℕ → Request → Answered → S → Type 0)
+    (tells : K → ℕ → K → Type 0) where
   chain-append : (v w x : S) (k l m : K) (xs ys : List Turn) → Chain responds tells v k xs w l
       → Chain responds tells w l ys x m → Chain responds tells v k (xs ++ ys) x m
   chain-append v w x k l m [] ys c d =
@@ -136,7 +137,8 @@ module _ {S K : Type 0} (base_of : S → List ℕ) (responds : S → ℕ → Req
         old.turns new.turns stay.turns,
   )
 
-  module _ (stays : (before after : S) (moment : ℕ) (request : Request) (answered : Answered) → responds before moment request answered after → base_of after ≡ base_of before) where
+  module _ (stays : (before after : S) (moment : ℕ) (request : Request) (answered : Answered)
+      → responds before moment request answered after → base_of after ≡ base_of before) where
     -- the one that stands is answered
     answers_one : (request : Request) (answered : Answered) (v w : S) (k l : K) (old new : History)
         → Answers responds tells request answered v w k l old new → AnswersOf base_of responds tells old new v k w l
@@ -197,7 +199,8 @@ module _ {S K : Type 0} (base_of : S → List ℕ) (responds : S → ℕ → Req
 
 -- ---- rounds, with rests between them
 
-module _ {S K : Type 0} (base_of : S → List ℕ) (responds : S → ℕ → Request → Answered → S → Type 0) (rests : S → S → Type 0) (tells : K → ℕ → K → Type 0) where
+module _ {S K : Type 0} (base_of : S → List ℕ) (responds : S → ℕ → Request → Answered → S → Type 0)
+    (rests : S → S → Type 0) (tells : K → ℕ → K → Type 0) where
   course-append : (v w x : S) (k l m : K) (xs ys : List (Option Turn)) → Course responds rests tells v k xs w l
       → Course responds rests tells w l ys x m
       → Course responds rests tells v k (xs ++ ys) x m

@@ -5,7 +5,8 @@ use Rattle.lra_steps.specs.declared.responder.Answered.{Answered}
 use Rattle.lra_steps.specs.History.{History, Turn}
 use Rattle.lra_steps.specs.Pieces.{Chain, Course}
 
-module _ {S K : Type 0} (base_of : S → List ℕ) (responds : S → ℕ → Request → Answered → S → Type 0) (tells : K → ℕ → K → Type 0) where
+module _ {S K : Type 0} (base_of : S → List ℕ) (responds : S → ℕ → Request → Answered → S → Type 0)
+    (tells : K → ℕ → K → Type 0) where
   -- Requests of one connection are answered so: they stand behind those that were, no byte came or left, and what is
   -- replied stands behind what may leave.
   pub record AnswersOf (old new : History) (v : S) (k : K) (w : S) (l : K) : Type 0 where

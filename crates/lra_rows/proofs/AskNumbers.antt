@@ -18,16 +18,19 @@ length-numbered k (x ∷ xs) = ap suc (length-numbered (suc k) xs)
 slice_get-numbered : (k : ℕ) (xs : List Unnumbered) (n : ℕ) → slice_get (numbered k xs) n
     ≡ option_map (with_number (k + suc n)) (slice_get xs n)
 slice_get-numbered k [] n = refl
-slice_get-numbered k (x ∷ xs) zero = ap (λ (m : ℕ). Some (with_number m x)) (let e : suc k ≡ k + suc 0 = omega arith in e)
+slice_get-numbered k (x ∷ xs) zero = ap (λ (m : ℕ). Some (with_number m x))
+    (let e : suc k ≡ k + suc 0 = omega arith in e)
 slice_get-numbered k (x ∷ xs) (suc n) =
     slice_get-numbered (suc k) xs n
-    ∙ ap (λ (m : ℕ). option_map (with_number m) (slice_get xs n)) (let e : suc k + suc n ≡ k + suc (suc n) = omega arith in e)
+    ∙ ap (λ (m : ℕ). option_map (with_number m) (slice_get xs n))
+    (let e : suc k + suc n ≡ k + suc (suc n) = omega arith in e)
 
 -- the ask of a number
 pub row_at-numbered : (xs : List Unnumbered) (n : ℕ) → row_at (numbered 0 xs) n
     ≡ option_map (with_number n) (row_at xs n)
 row_at-numbered xs zero = refl
-row_at-numbered xs (suc n) = slice_get-numbered 0 xs n ∙ ap (λ (m : ℕ). option_map (with_number m) (slice_get xs n)) (let e : 0 + suc n ≡ suc n = omega arith in e)
+row_at-numbered xs (suc n) = slice_get-numbered 0 xs n ∙ ap (λ (m : ℕ). option_map (with_number m) (slice_get xs n))
+    (let e : 0 + suc n ≡ suc n = omega arith in e)
 
 -- the ask that is read of what stands there
 pub read_at : (xs : List Unnumbered) (n : ℕ) (o : Option Unnumbered) → o ≡ row_at xs n → option_map (with_number n) o
@@ -40,13 +43,15 @@ numbered-more : (k : ℕ) (xs : List Unnumbered) (x : Unnumbered) → numbered k
 numbered-more k [] x = ap (λ (m : ℕ). with_number m x ∷ []) (let e : suc k ≡ k + 0 + 1 = omega arith in e)
 numbered-more k (y ∷ xs) x =
     ap (λ (ys : List Asked). with_number (suc k) y ∷ ys)
-    (numbered-more (suc k) xs x ∙ ap (λ (m : ℕ). numbered (suc k) xs ++ with_number m x ∷ []) (let e : suc k + length xs + 1 ≡ k + suc (length xs) + 1 = omega arith in e))
+    (numbered-more (suc k) xs x ∙ ap (λ (m : ℕ). numbered (suc k) xs ++ with_number m x ∷ [])
+    (let e : suc k + length xs + 1 ≡ k + suc (length xs) + 1 = omega arith in e))
 
 pub one_more : (xs : List Unnumbered) (x : Unnumbered) (n : ℕ) → n ≡ length (numbered 0 xs) + 1
     → numbered 0 (xs ++ x ∷ []) ≡ numbered 0 xs ++ with_number n x ∷ []
 one_more xs x n next =
     numbered-more 0 xs x
-    ∙ ap (λ (m : ℕ). numbered 0 xs ++ with_number m x ∷ []) (let l = length-numbered 0 xs in let e : 0 + length xs + 1 ≡ n = omega arith in e)
+    ∙ ap (λ (m : ℕ). numbered 0 xs ++ with_number m x ∷ [])
+    (let l = length-numbered 0 xs in let e : 0 + length xs + 1 ≡ n = omega arith in e)
 
 -- one less
 take-numbered : (k n : ℕ) (xs : List Unnumbered) → numbered k (take n xs) ≡ take n (numbered k xs)

@@ -25,7 +25,8 @@ use Rattle.lra_laws.specs.Rows as laws
 use Rattle.lra_laws.specs.Rows.{way_asked, row_at, stands_as, action_row, member_row, void_asks, standing, state_of}
 use Rattle.lra_laws.specs.inner.RowFacts.{facts_by, member_by}
 use Rattle.lra_laws.specs.Sheets.{Repeats, repeats_in, no_repeats, Nest, Contact, nest_of, contact_of, sheet_of}
-use Rattle.lra_laws.proofs.Legal.{actions_numbered, members_numbered, status_is_there}
+use Rattle.lra_laws.proofs.Legal.{actions_numbered, members_numbered}
+use Rattle.lra_laws.proofs.Named.{status_is_there}
 use Rattle.lra_laws.proofs.RowLists.{row_there, row_absent}
 use Rattle.lra_laws.specs.Settles.{end_by}
 use Rattle.lra_laws.proofs.SettlesNext.{end_agrees}

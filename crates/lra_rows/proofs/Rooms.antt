@@ -278,4 +278,5 @@ room_kept old new same k d h = refl
 -- so for an entry, where there are as many as before
 pub entry_kept : (old new : Rowed) → new.sheet ≡ old.sheet → Keeps old new → (e : Entry) → has_room e old ≡ true
     → has_room e new ≡ true
-entry_kept old new same k e h = let x = both _ _ h in and_intro _ _ (ap (λ s. nat_lt s.entries (2 ^ 63)) same ∙ x.0) (room_kept old new same k e.deed x.1)
+entry_kept old new same k e h = let x = both _ _ h in
+    and_intro _ _ (ap (λ s. nat_lt s.entries (2 ^ 63)) same ∙ x.0) (room_kept old new same k e.deed x.1)

@@ -119,7 +119,8 @@ lineage_within-le (suc n) J a = above (parent J a) (λ b. lineage_within-le n J 
 depth-le : (v : Version) (t : List ℕ → Bool) (J : History) → is_legal v t J ≡ true → (a : ℕ) → is_among (actions J) a
     ≡ true → depth J a ≤ length J + 1
 unfolding depth
-depth-le v t J l a h = let k = lineage_within-le a J a in let g = numbered_among (actions J) (actions_numbered v t J l) a h in let m = actions-le J in omega (arith, g.1)
+depth-le v t J l a h = let k = lineage_within-le a J a in
+    let g = numbered_among (actions J) (actions_numbered v t J l) a h in let m = actions-le J in omega (arith, g.1)
 
 -- a bound of each row that is there
 rows_bounded : {R : Type 0} (P : R → Type 0) (g : ℕ → R) (ns : List ℕ) → IsNumbered ns
@@ -132,7 +133,8 @@ rows_bounded {R = R} P g ns numbered each n = decide (is_among ns n) refl
 
 -- there is room for one more entry in each count of a sheet that stands for a history
 pub CanCount-from_StandsFor : (s : Sheet) (J : History) → StandsFor s J → s.entries < 2 ^ 63 → CanCount s
-CanCount-from_StandsFor s J h few = subst CanCount (sym h.sheet) (of_history (let e = ap (λ (x : Sheet). x.entries) h.sheet in omega arith))
+CanCount-from_StandsFor s J h few = subst CanCount (sym h.sheet)
+    (of_history (let e = ap (λ (x : Sheet). x.entries) h.sheet in omega arith))
   where
     v : Version
     v = h.version
@@ -146,7 +148,8 @@ CanCount-from_StandsFor s J h few = subst CanCount (sym h.sheet) (of_history (le
       actions = rows_bounded (CountsTo 18446744073709551614) (action_row J) (actions J) (actions_numbered v t J h.legal)
           (λ a g. CountsTo-more (length J) 18446744073709551614 (action_row J a) (omega arith)
           (row_counts v t J h.legal a));
-      nests = rows_bounded (DeepTo (2 ^ 63)) (nest_of J) (actions J) (actions_numbered v t J h.legal) (λ a g. let d = depth-le v t J h.legal a g in omega arith);
+      nests = rows_bounded (DeepTo (2 ^ 63)) (nest_of J) (actions J) (actions_numbered v t J h.legal)
+          (λ a g. let d = depth-le v t J h.legal a g in omega arith);
       contacts = rows_bounded (RepeatsTo (2 ^ 63)) (contact_of J) (members J) (members_numbered v t J h.legal)
           (λ p g. record {
             completing = few_repeats p ask.Complete;

@@ -49,14 +49,16 @@ answer_back m o x c = either (is_undecided o)
 
 -- a list with one more: the last, and the list without it
 pub last_there : {X : Type 0} (xs : List X) (x : X) → row_at (xs ++ x ∷ []) (length (xs ++ x ∷ [])) ≡ Some x
-last_there {X = X} xs x = ap (row_at (xs ++ x ∷ [])) (let e : length (xs ++ x ∷ []) ≡ suc (length xs) = omega (arith, length-append xs (x ∷ [])) in e) ∙ at_end xs
+last_there {X = X} xs x = ap (row_at (xs ++ x ∷ []))
+    (let e : length (xs ++ x ∷ []) ≡ suc (length xs) = omega (arith, length-append xs (x ∷ [])) in e) ∙ at_end xs
   where
     at_end : (ys : List X) → slice_get (ys ++ x ∷ []) (length ys) ≡ Some x
     at_end [] = refl
     at_end (y ∷ ys) = at_end ys
 
 pub without_more : {X : Type 0} (xs : List X) (x : X) → without_last (xs ++ x ∷ []) ≡ xs
-without_more xs x = ap (λ n. take n (xs ++ x ∷ [])) (let e = length-append xs (x ∷ []) in omega arith) ∙ take-append_seam xs (x ∷ [])
+without_more xs x = ap (λ n. take n (xs ++ x ∷ [])) (let e = length-append xs (x ∷ []) in omega arith)
+    ∙ take-append_seam xs (x ∷ [])
 
 -- a number that went to a list, and back
 child_back : (c : ℕ) (n : Nest) → without_child (with_child_number c n) ≡ n

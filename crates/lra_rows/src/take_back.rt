@@ -26,7 +26,14 @@ fn remove_at(nests: &mut Vec<Nest>, list: Listed, action: u64)
 impl Rows {
     ghost use Rattle.std.specs.Prelude.{◌≡◌};
     ghost use Rattle.lra_rows.specs.declared.step.Added.TheVariants as kinds;
-    ghost use Rattle.lra_rows.specs.Steps.{taken_back, addresses_back, with_counts, without_added, rewritten, added_addresses};
+    ghost use Rattle.lra_rows.specs.Steps.{
+      taken_back,
+      addresses_back,
+      with_counts,
+      without_added,
+      rewritten,
+      added_addresses,
+    };
 
     fn remove_action(&mut self, parent: Option<u64>)
         ensures { self.new ≡ without_added (kinds.Action parent) self.old }

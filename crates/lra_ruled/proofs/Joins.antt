@@ -43,14 +43,16 @@ fitting_is (Some ms) e = by_fit (members_fit operation.Join ms) refl e
     by_fit : (t : Bool) → members_fit operation.Join ms ≡ t → is_some (option_and_then (fitting operation.Join)
         (Some ms)) ≡ true → (option_and_then (fitting operation.Join) (Some ms) ≡ Some ms) × IsSome (Some ms)
     by_fit true fits e = (rw fits refl, refl)
-    by_fit false fits e = absurd (let h : is_some (option_and_then (fitting operation.Join) (Some ms)) ≡ false = rw fits refl in cc)
+    by_fit false fits e = absurd (let h : is_some (option_and_then (fitting operation.Join) (Some ms)) ≡ false =
+        rw fits refl in cc)
 
 -- what is read fits
 pub fitting_body : (body : List ℕ) (d : Data) → 0 < length body → IsUtf8 body → read body ≡ Some d
     → is_some (option_and_then (fitting operation.Join) (as_object d)) ≡ true
     → (body_of operation.Join body ≡ as_object d) × IsSome (as_object d)
 unfolding body_of
-fitting_body body d some text e fits = let (same, there) = fitting_is (as_object d) fits in (rw (object_ok body d some text e) same, there)
+fitting_body body d some text e fits = let (same, there) = fitting_is (as_object d) fits in
+    (rw (object_ok body d some text e) same, there)
 
 none_of : (o : Option Members) → is_some o ≡ false → o ≡ None
 none_of None e = refl

@@ -27,7 +27,8 @@ module _ {S : Type 0} (responds : S → ℕ → Request → Answered → S → T
     pub unchanged : after ≡ before.inner
 
   -- What a request at a moment does. The rules stay.
-  pub record Responds (before : Served S) (moment : ℕ) (request : Request) (answered : Answered) (after : Served S) : Type 0 where
+  pub record Responds (before : Served S) (moment : ℕ) (request : Request) (answered : Answered)
+      (after : Served S) : Type 0 where
     pub rules : after.rules ≡ before.rules
     pub inner : Answers before moment request answered after.inner ⊎ Refuses before request answered after.inner
 

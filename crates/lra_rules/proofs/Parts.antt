@@ -38,7 +38,8 @@ at_last_none byte xs none =
 
 module _ (read : List ℕ → Option (List ℕ × List ℕ)) (Spells : List ℕ → List ℕ → Type 0)
     (complete : (text value : List ℕ) → Spells text value → read (text ++ []) ≡ Some (value, []))
-    (sound : (text value rest : List ℕ) → read text ≡ Some (value, rest) → (front : List ℕ) × (text ≡ front ++ rest) × Spells front value) where
+    (sound : (text value rest : List ℕ) → read text ≡ Some (value, rest) → (front : List ℕ) × (text ≡ front ++ rest)
+    × Spells front value) where
   -- a text that spells a value is read whole
   pub whole_some : (text value : List ℕ) → Spells text value → whole_value (read text) ≡ Some value
   whole_some text value spelled = ap whole_value (ap read (sym (append-nil text)) ∙ complete text value spelled)

@@ -56,7 +56,8 @@ AllWhole (w ∷ ws) = Whole w × AllWhole ws
 
 weaker : (p q : ℕ → Bool) (w : List ℕ) → ((b : ℕ) → p b ≡ true → q b ≡ true) → list_all p w ≡ true → list_all q w ≡ true
 weaker p q [] f h = refl
-weaker p q (b ∷ w) f h = let k = both (p b) (list_all p w) h in and_intro (q b) (list_all q w) (f b k.0) (weaker p q w f k.1)
+weaker p q (b ∷ w) f h = let k = both (p b) (list_all p w) h in
+    and_intro (q b) (list_all q w) (f b k.0) (weaker p q w f k.1)
 
 visible_unbroken : (b : ℕ) → is_visible b ≡ true → unbroken b ≡ true
 visible_unbroken b h =

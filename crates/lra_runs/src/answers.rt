@@ -12,7 +12,8 @@ use std::alloc::Global;
 
 /// A line of a word and a number.
 fn line_of_number(alloc: Global, word: &str, number: u64) -> Result<String, Memory>
-    ensures { IfOk result (λ text. string_bytes text ≡ joined (word.now ∷ codes " " ∷ decimal number ∷ line_feed ∷ [])) }
+    ensures { IfOk result (λ text. string_bytes text
+        ≡ joined (word.now ∷ codes " " ∷ decimal number ∷ line_feed ∷ [])) }
 {
     format!(in alloc; "{word} {number}\n")
 }

@@ -23,7 +23,9 @@ use Rattle.lra_schedule.proofs.Found.{limit_fits}
 
 -- ---- of one map of moments
 
-module _ (moments : Moments) (word : ℕ → Option ℕ) (top : ℕ) (tells : (now : ℕ) (r : Option ℕ) → (IsNone r ↔ NoneDue moments now) → IfSome r (IsFirstDue moments now) → r ≡ word now) where
+module _ (moments : Moments) (word : ℕ → Option ℕ) (top : ℕ)
+    (tells : (now : ℕ) (r : Option ℕ) → (IsNone r ↔ NoneDue moments now) → IfSome r (IsFirstDue moments now)
+    → r ≡ word now) where
   is_none : (now : ℕ) → NoneDue moments now → is_some (word now) ≡ false
   is_none now none = ap (λ (o : Option ℕ). is_some o) (sym (tells now None (λ _. none, λ _. refl) tt))
 
@@ -36,7 +38,9 @@ module _ (moments : Moments) (word : ℕ → Option ℕ) (top : ℕ) (tells : (n
   pub first_some : (n : ℕ) (first : IsFirstDue moments top n) → IsFirst (λ n. is_some (word n)) (Some first.moment)
   first_some n first = (
     ap (λ (o : Option ℕ). is_some o)
-        (sym (tells first.moment (Some n) (λ is. absurd (some_isn't is), λ none. absurd (let early = none n first.moment first.has in omega arith)) (record { moment = first.moment; has = first.has; due = omega arith; least = first.least }))),
+        (sym (tells first.moment (Some n)
+        (λ is. absurd (some_isn't is), λ none. absurd (let early = none n first.moment first.has in omega arith))
+        (record { moment = first.moment; has = first.has; due = omega arith; least = first.least }))),
     λ k before. is_none k (λ p m e. let h = (first.least p m e).0 in omega arith),
   )
     where
@@ -74,7 +78,8 @@ passing_fits v t J legal a moment h = one (action_is is_active J a && not ((limi
 
     one : (b : Bool) → moment_of (when b timed) ≡ Some moment → moment ≤ 2 ^ 64 - 1
     one false e = absurd cc
-    one true e = let same : timed.moment ≡ moment = cc in subst (λ (m : ℕ). m ≤ 2 ^ 64 - 1) same (leb-true _ _ (limit_fits v t J legal a))
+    one true e = let same : timed.moment ≡ moment = cc in
+        subst (λ (m : ℕ). m ≤ 2 ^ 64 - 1) same (leb-true _ _ (limit_fits v t J legal a))
 
 module _ (l : Limits) (J : History) (s : Planned) (is : IsScheduleOf l s J) where
   pub want_none : NoneDue s.retries (2 ^ 64 - 1) → IsFirst (λ n. is_some (due l J n)) None

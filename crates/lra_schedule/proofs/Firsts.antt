@@ -62,10 +62,16 @@ module _ (f : ℕ → Option Timed) (now : ℕ) where
             four false j = rest y j
 
   -- of the numbers from a on, the one that comes first is chosen
-  module _ (number : ℕ) (w : Timed) (is : f number ≡ Some w) (due : w.moment ≤ now) (least : (n : ℕ) (x : Timed) → f n ≡ Some x → (w.moment ≤ x.moment) × (w.moment ≡ x.moment → number ≤ n)) where
+  module _ (number : ℕ) (w : Timed) (is : f number ≡ Some w) (due : w.moment ≤ now)
+      (least : (n : ℕ) (x : Timed) → f n ≡ Some x → (w.moment ≤ x.moment) × (w.moment ≡ x.moment → number ≤ n)) where
     chosen : (a k : ℕ) → a ≤ number → number < a + k → earliest (come now (filter_map f (range_with_len a k))) ≡ Some w
     chosen a zero low high = absurd (omega arith)
-    chosen a (suc k) low high = elim (cases_eq a number) [ inl same ↦ here same | inr other ↦ (let lower : a < number = omega arith in later lower (chosen (a + 1) k (omega arith) (omega arith))) ]
+    chosen a (suc k) low high = elim
+        (cases_eq a number) [
+          | inl same ↦ here same
+          | inr other ↦
+              (let lower : a < number = omega arith in later lower (chosen (a + 1) k (omega arith) (omega arith)))
+        ]
       where
         tail : List Timed
         tail = come now (filter_map f (range_with_len (a + 1) k))
@@ -87,7 +93,12 @@ module _ (f : ℕ → Option Timed) (now : ℕ) where
         after x e lower rest true =
             let first = least a x e in
             let no_later = first.0 in
-            let behind : w.moment < x.moment = elim (cases_eq w.moment x.moment) [ inl same ↦ (let k = first.1 same in absurd (omega arith)) | inr other ↦ omega arith ] in
+            let behind : w.moment < x.moment = elim
+            (cases_eq w.moment x.moment) [
+              | inl same ↦ (let k = first.1 same in absurd (omega arith))
+              | inr other ↦
+                  omega arith
+            ] in
             ap (λ (o : Option Timed). Some (earlier x o)) rest ∙ ap (λ (b : Bool). Some (cond b x w))
             (lt-leb x.moment w.moment behind)
 

@@ -18,7 +18,8 @@ use Rattle.lra_model.specs.Tests.{is_moment}
 use Rattle.lra_model.specs.Wants.{wants, wanted, repeat_count, last_repeat}
 use Rattle.lra_model.specs.Rules.{is_legal}
 use Rattle.lra_laws.proofs.Push.{limit_push}
-use Rattle.lra_laws.proofs.Legal.{Allowed, entry_kept, start_kept, renew_kept, legal_induction, status_is_there}
+use Rattle.lra_laws.proofs.Legal.{Allowed, entry_kept, start_kept, renew_kept, legal_induction}
+use Rattle.lra_laws.proofs.Named.{status_is_there}
 use Rattle.lra_rows.specs.declared.found.ActionRow.{ActionRow}
 use Rattle.lra_rows.specs.Found.{found_action, found_member}
 use Rattle.lra_commands.specs.declared.limits.Limits.{Limits}

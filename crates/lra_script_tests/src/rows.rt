@@ -1,4 +1,5 @@
-//! Scripts, each with what comes of it: a command and its answer, and then the lines that it appends. Scripts stand between `|`.
+//! Scripts, each with what comes of it: a command and its answer, and then the lines that it appends. Scripts stand
+//! between `|`.
 
 /// On a coordinator with the usual limits.
 pub const SCRIPTS: &str = "\
@@ -428,7 +429,8 @@ lra-journal 1 7
 ",
 ];
 
-/// Between `|`: a moment and what a renewal is then refused by, the journal that is reopened, and after `>` what is written of it.
+/// Between `|`: a moment and what a renewal is then refused by, the journal that is reopened, and after `>` what is
+/// written of it.
 pub const REOPENED: &str = "\
 9 OldJournal
 lra-journal 1 7

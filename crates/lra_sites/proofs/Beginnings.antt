@@ -85,9 +85,10 @@ hex_injective a b a_small b_small same = grind (arith, nat_tests)
 
 same_digit : (s t place : ℕ) → hex_digit lower (digit_of s place) ≡ hex_digit lower (digit_of t place)
     → digit_of s place ≡ digit_of t place
-same_digit s t place same = hex_injective (digit_of s place) (digit_of t place) (remainder (s / place)) (remainder (t / place)) same where
-  remainder : (n : ℕ) → n % 16 < 16
-  remainder n = omega arith
+same_digit s t place same = hex_injective (digit_of s place) (digit_of t place) (remainder (s / place))
+    (remainder (t / place)) same where
+      remainder : (n : ℕ) → n % 16 < 16
+      remainder n = omega arith
 
 same_site : (s t : ℕ) → s < 2 ^ 16 → t < 2 ^ 16 → site_text s ≡ site_text t → s ≡ t
 unfolding site_text

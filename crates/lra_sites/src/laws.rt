@@ -1,6 +1,14 @@
 //! The laws of sites: public functions that do nothing, whose contracts say what follows from the definitions.
 
-ghost use Rattle.lra_sites.specs.Laws.{ActionsBeginWithTheirSite, AreRanges, BeginWithTheirSite, FitSixteenBits, NeverMeet, RecoveriesBeginWithTheirSite, TellSitesApart};
+ghost use Rattle.lra_sites.specs.Laws.{
+  ActionsBeginWithTheirSite,
+  AreRanges,
+  BeginWithTheirSite,
+  FitSixteenBits,
+  NeverMeet,
+  RecoveriesBeginWithTheirSite,
+  TellSitesApart,
+};
 
 /// An identifier begins with the four hexadecimal digits of its instance's site; so the URI of an action and the
 /// recovery URI of a member are their base, their path, and those digits first, whatever the base.

@@ -92,7 +92,9 @@ replied_ordered (Some end) h request rest e r = absurd cc
 
 -- where none stands, the requests that were answered are all that was read
 pub all_read : (h : History) → IsServed h → h.stands ≡ None → Spells h.taken (map plain h.turns) h.kept
-all_read h s none = let here : s.behind ≡ h.kept = subst (λ (o : Option Request). StandsAt o s.behind h.kept) none s.standing in subst (Spells h.taken (map plain h.turns)) here s.spelled
+all_read h s none = let here : s.behind ≡ h.kept = subst
+    (λ (o : Option Request). StandsAt o s.behind h.kept) none s.standing in
+    subst (Spells h.taken (map plain h.turns)) here s.spelled
 
 pub served_ordered : (h : History) (request : Request) (n : ℕ) → IsServed h → IsFree h
     → IsRequest h.kept request (drop n h.kept) → IsServed (ordered h request (drop n h.kept))

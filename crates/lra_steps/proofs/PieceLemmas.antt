@@ -141,7 +141,8 @@ turned h new turn (Err f) e = subst (λ (g : History). Turned h g turn) (sym e)
 
 -- ---- answers
 
-module _ (S K : Type 0) (base_of : S → List ℕ) (responds : S → ℕ → Request → Answered → S → Type 0) (tells : K → ℕ → K → Type 0) where
+module _ (S K : Type 0) (base_of : S → List ℕ) (responds : S → ℕ → Request → Answered → S → Type 0)
+    (tells : K → ℕ → K → Type 0) where
   -- a turn more
   chain-push : (v w x : S) (k l m : K) (turns : List Turn) (turn : Turn) → Chain responds tells v k turns w l
       → tells l turn.moment m
@@ -183,7 +184,8 @@ module _ (S K : Type 0) (base_of : S → List ℕ) (responds : S → ℕ → Req
       some_same : (x y : Request) → Some x ≡ Some y → x ≡ y
       some_same x y e = cc
 
-  module _ (stays : (before after : S) (moment : ℕ) (request : Request) (answered : Answered) → responds before moment request answered after → base_of after ≡ base_of before) where
+  module _ (stays : (before after : S) (moment : ℕ) (request : Request) (answered : Answered)
+      → responds before moment request answered after → base_of after ≡ base_of before) where
     -- a request was read and answered, and what stays as it was
     pub record Passes (h new : History) (w x : S) (l m : K) : Type 0 where
       pub follows : (v : S) (k : K) → Follows base_of responds tells v k h w l
@@ -326,7 +328,8 @@ ends_plain c WriteFault turns rest out of r = inl (subst (IsFront out) (replies_
 module _ (C K : Type 0) (sight : C → Sight) (covers : C → ℕ → Bool) (gives : Sight → ℕ → Order
     → Result Told CounterFault → Sight → Type 0)
     (tells : K → ℕ → K → Type 0)
-    (keeps : (before after : Sight) (moment : ℕ) (o : Order) (reply : Result Told CounterFault) → gives before moment o reply after → KeepsHistory before moment o reply after) where
+    (keeps : (before after : Sight) (moment : ℕ) (o : Order) (reply : Result Told CounterFault)
+    → gives before moment o reply after → KeepsHistory before moment o reply after) where
   -- its turns are those of the front, and all of one coordinator
   record Alone (v w : Sight) (k l : K) (turns : List Turn) : Type 0 where
     of : AreOf v.setting.instance turns

@@ -67,7 +67,8 @@ reaches (suc n) (turn ∷ turns) = reaches n turns
 reaches_is : {T : Type 0} (n : ℕ) (turns : List T) → nat_le n (length turns) ≡ reaches n turns
 reaches_is zero turns = grind (arith, nat_tests)
 reaches_is (suc n) [] = grind (arith, nat_tests)
-reaches_is (suc n) (turn ∷ turns) = let one : nat_le (suc n) (length (turn ∷ turns)) ≡ nat_le n (length turns) = grind (arith, nat_tests) in one ∙ reaches_is n turns
+reaches_is (suc n) (turn ∷ turns) = let one : nat_le (suc n) (length (turn ∷ turns)) ≡ nat_le n (length turns) = grind
+    (arith, nat_tests) in one ∙ reaches_is n turns
 
 one_more : (base : List ℕ) (n : ℕ) (turns : List Turn) (turn : Turn) → replies base n (turns ++ turn ∷ [])
     ≡ replies base n turns ++ turn_reply base (reaches n turns) turn

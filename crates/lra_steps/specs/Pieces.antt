@@ -41,7 +41,8 @@ module _ {S K : Type 0} (responds : S → ℕ → Request → Answered → S →
 
   -- What bytes come to: the requests that they spell are answered one after another, and replied in their order, each
   -- by whose answer it is. The instance is that of replies to faults of reading.
-  pub record Serves (instance : ℕ) (base bytes old : List ℕ) (v : S) (k : K) (end : StreamEnd) (new : List ℕ) (w : S) (l : K) : Type 0 where
+  pub record Serves (instance : ℕ) (base bytes old : List ℕ) (v : S) (k : K) (end : StreamEnd) (new : List ℕ) (w : S)
+      (l : K) : Type 0 where
     pub turns : List Turn
     pub rest : List ℕ
     pub out : List ℕ
@@ -50,7 +51,8 @@ module _ {S K : Type 0} (responds : S → ℕ → Request → Answered → S →
     pub written : new ≡ old ++ out
     pub ends : EndsAfter instance base turns rest out end
 
-module _ {S K : Type 0} (responds : S → ℕ → Request → Answered → S → Type 0) (rests : S → S → Type 0) (tells : K → ℕ → K → Type 0) where
+module _ {S K : Type 0} (responds : S → ℕ → Request → Answered → S → Type 0) (rests : S → S → Type 0)
+    (tells : K → ℕ → K → Type 0) where
   -- one turn after another as in a chain, with rests between them: there is a turn, or none where whoever answers rests
   abbrev pub Course : S → K → List (Option Turn) → S → K → Type 0
   Course v k [] w l = (w ≡ v) × (l ≡ k)
@@ -65,7 +67,8 @@ turns_in [] = []
 turns_in (Some turn ∷ xs) = turn ∷ turns_in xs
 turns_in (None ∷ xs) = turns_in xs
 
-module _ {K : Type 0} (gives : Sight → ℕ → Order → Result Told CounterFault → Sight → Type 0) (tells : K → ℕ → K → Type 0) where
+module _ {K : Type 0} (gives : Sight → ℕ → Order → Result Told CounterFault → Sight → Type 0)
+    (tells : K → ℕ → K → Type 0) where
   -- what these bytes come to is what a stream of them does (`AreTranscripts`), where its end and what went out are
   -- known
   abbrev pub ServesBytes : List ℕ → List ℕ → Sight → K → StreamEnd → List ℕ → Sight → K → Type 0

@@ -1,5 +1,22 @@
 //! One connection.
-ghost use Rattle.std.specs.Prelude.{◌≡◌, ◌≤◌, ◌==◌, [], ◌∷◌, ◌++◌, map, take, drop, length, if◌then◌else◌, Some, None, IfSome, IsTrue, IsSome};
+ghost use Rattle.std.specs.Prelude.{
+  ◌≡◌,
+  ◌≤◌,
+  ◌==◌,
+  [],
+  ◌∷◌,
+  ◌++◌,
+  map,
+  take,
+  drop,
+  length,
+  if◌then◌else◌,
+  Some,
+  None,
+  IfSome,
+  IsTrue,
+  IsSome,
+};
 ghost use Rattle.std.specs.Option.{option_map};
 ghost use Rattle.lra_wire.specs.Fronts.{IsUnfinished, Sees};
 ghost use Rattle.lra_wire.specs.Request.{request_of};

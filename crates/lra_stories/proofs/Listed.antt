@@ -274,7 +274,8 @@ tallied_more ms i d before after lt more was slot a p place small within =
           ∙ ap (λ (k : ℕ). get_or before k 0 + 1) (sym x.1) in
           now ∙ ap (λ (n : ℕ). n + 1) old ∙ sym (counts ∙ ap (λ (b : Bool). count_of (take i ms) a p + cond b 1 0) yes)
       | inr x ↦
-          let no = counted_elsewhere m a p (λ one other. x.1 (let stands = more.place in omega (arith, one, other, place, stands))) in
+          let no = counted_elsewhere m a p
+          (λ one other. x.1 (let stands = more.place in omega (arith, one, other, place, stands))) in
           let now : get_or after slot 0 ≡ get_or before slot 0 =
           ap (λ (xs : List ℕ). get_or xs slot 0) more.changed ∙ get_or-set_other before more.slot slot
           (get_or before more.slot 0 + 1) 0 x.1 in

@@ -25,7 +25,8 @@ top_of n = 26 * n
 
 -- the row of a number, with what stands in it
 abbrev pub row : ℕ → List ℕ → List ℕ
-row n content = joined (codes "<g transform=\"translate(0," ∷ decimal (top_of n) ∷ codes ")\">" ∷ content ∷ codes "</g>\n" ∷ [])
+row n content = joined (codes "<g transform=\"translate(0," ∷ decimal (top_of n) ∷ codes ")\">" ∷ content
+    ∷ codes "</g>\n" ∷ [])
 
 -- rows, one below the other, from a number on
 abbrev pub rows : ℕ → List (List ℕ) → List ℕ
@@ -34,15 +35,18 @@ rows n (content ∷ more) = row n content ++ rows (n + 1) more
 
 -- a mark in the action's lane: a disk, of the look of a status
 abbrev pub action_mark : ActionStatus → List ℕ
-action_mark status = joined (codes "<circle cx=\"28\" cy=\"13\" r=\"7\" class=\"" ∷ action_status_name status ∷ codes "\"/>" ∷ [])
+action_mark status = joined (codes "<circle cx=\"28\" cy=\"13\" r=\"7\" class=\"" ∷ action_status_name status
+    ∷ codes "\"/>" ∷ [])
 
 -- a mark in the members' lane: a square
 abbrev pub member_mark : List ℕ → List ℕ
-member_mark look = joined (codes "<rect x=\"50\" y=\"7\" width=\"12\" height=\"12\" class=\"" ∷ look ∷ codes "\"/>" ∷ [])
+member_mark look = joined (codes "<rect x=\"50\" y=\"7\" width=\"12\" height=\"12\" class=\"" ∷ look
+    ∷ codes "\"/>" ∷ [])
 
 -- a mark in the lane of the nested actions: a diamond
 abbrev pub nested_mark : ActionStatus → List ℕ
-nested_mark status = joined (codes "<path d=\"M84 5l8 8l-8 8l-8-8z\" class=\"" ∷ action_status_name status ∷ codes "\"/>" ∷ [])
+nested_mark status = joined (codes "<path d=\"M84 5l8 8l-8 8l-8-8z\" class=\"" ∷ action_status_name status
+    ∷ codes "\"/>" ∷ [])
 
 -- the mark of a fact, where the action has this status after it: in the lane of whom it is about, and of the look of
 -- what that came to
@@ -66,11 +70,13 @@ mark status (NestedEnded b s) = nested_mark s
 
 -- the action's lane from a row to the next one, of the look of the status that it has meanwhile
 abbrev pub stretch : ActionStatus → List ℕ
-stretch status = joined (codes "<line x1=\"28\" y1=\"13\" x2=\"28\" y2=\"39\" class=\"" ∷ action_status_name status ∷ codes "\"/>" ∷ [])
+stretch status = joined (codes "<line x1=\"28\" y1=\"13\" x2=\"28\" y2=\"39\" class=\"" ∷ action_status_name status
+    ∷ codes "\"/>" ∷ [])
 
 -- when it was
 abbrev pub moment_words : ℕ → List ℕ
-moment_words moment = joined (codes "<text x=\"112\" y=\"18\" class=\"moment\">" ∷ moment_text moment ∷ codes "</text>" ∷ [])
+moment_words moment = joined (codes "<text x=\"112\" y=\"18\" class=\"moment\">" ∷ moment_text moment
+    ∷ codes "</text>" ∷ [])
 
 -- a line of the story, escaped, with its line feed, which no text of SVG shows
 abbrev pub words : List ℕ → List ℕ
@@ -109,7 +115,8 @@ opening head height =
 
 -- the lanes of the members and of the nested actions
 abbrev pub lanes : ℕ → List ℕ
-lanes height = joined (codes "<path class=\"lane\" d=\"M56 26V" ∷ decimal height ∷ codes "M84 26V" ∷ decimal height ∷ codes "\"/>\n" ∷ [])
+lanes height = joined (codes "<path class=\"lane\" d=\"M56 26V" ∷ decimal height ∷ codes "M84 26V" ∷ decimal height
+    ∷ codes "\"/>\n" ∷ [])
 
 -- a picture of these rows, as high as they are together
 abbrev pub framed : List ℕ → List (List ℕ) → List ℕ

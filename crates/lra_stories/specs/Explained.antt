@@ -54,7 +54,8 @@ abbrev pub explained_status : Wanted → ℕ → History → ℕ
 explained_status w i J = option_map_or (λ (r : ActionRow). 0) (found w i J) 1
 
 -- the input is the text of this history; what was written is the story of the action, or that it isn't there
-pub record WritesStory (form : Form) (w : Wanted) (name input : List ℕ) (status : ℕ) (before after : Option (List ℕ)) (v : Version) (i : ℕ) (J : History) : Type 0 where
+pub record WritesStory (form : Form) (w : Wanted) (name input : List ℕ) (status : ℕ) (before after : Option (List ℕ))
+    (v : Version) (i : ℕ) (J : History) : Type 0 where
   pub sound : IsTextOf v i J input
   pub written : Appends before after (explained form w name i J)
   pub answered : status ≡ explained_status w i J

@@ -142,7 +142,8 @@ unfoldable pub lines_text : Choice → List ℕ → ℕ → History → List ℕ
 lines_text c prefix i J = flat_map (start_lines c prefix i J) (starts J)
 
 -- the input is the text of this history; what was written are the lines of its actions, and the status is 0
-pub record WritesLines (c : Choice) (prefix input : List ℕ) (status : ℕ) (before after : Option (List ℕ)) (v : Version) (i : ℕ) (J : History) : Type 0 where
+pub record WritesLines (c : Choice) (prefix input : List ℕ) (status : ℕ) (before after : Option (List ℕ)) (v : Version)
+    (i : ℕ) (J : History) : Type 0 where
   pub sound : IsTextOf v i J input
   pub written : Appends before after (lines_text c prefix i J)
   pub answered : status ≡ 0

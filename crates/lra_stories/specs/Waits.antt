@@ -32,7 +32,8 @@ use Rattle.lra_stories.specs.Facts.{stage_reported}
 use Rattle.lra_stories.specs.Sentences.{ask_words}
 use Rattle.lra_stories.specs.Times.{moment_text, length_text}
 
--- whether an action with this status waits for a member with that one, that can be compensated: it hasn't left, and isn't done (MicroProfile LRA
+-- whether an action with this status waits for a member with that one, that can be compensated: it hasn't left, and
+-- isn't done (MicroProfile LRA
 -- 2.0, LRAStatus)
 abbrev pub waits_for_member : ActionStatus → MemberStatus → Bool
 waits_for_member action.Closing s = not (has_gone s) && not (is_done_completing s)

@@ -1,6 +1,21 @@
 //! Number of an action's members that have each status.
 
-ghost use Rattle.std.specs.Prelude.{◌≡◌, ◌<◌, ◌+◌, ◌*◌, ◌++◌, ℕ, List, IfOk, OnOk, IfSome, string_bytes, get_or, map, option_to_list};
+ghost use Rattle.std.specs.Prelude.{
+  ◌≡◌,
+  ◌<◌,
+  ◌+◌,
+  ◌*◌,
+  ◌++◌,
+  ℕ,
+  List,
+  IfOk,
+  OnOk,
+  IfSome,
+  string_bytes,
+  get_or,
+  map,
+  option_to_list,
+};
 ghost use Rattle.lra_course.specs.declared.listing.ListedMember.{ListedMember as ListedMemberValue};
 ghost use Rattle.lra_stories.specs.Lines as lines;
 ghost use Rattle.lra_stories.specs.inner.Tallied.{Tallied, IsMore};

@@ -1,6 +1,21 @@
 //! Which action is asked for.
 
-ghost use Rattle.std.specs.Prelude.{◌≡◌, ◌≢◌, ◌++◌, ◌<◌, ◌^◌, ℕ, List, IfSome, IfNone, ◌-◌, length, drop, MatchOption, codes};
+ghost use Rattle.std.specs.Prelude.{
+  ◌≡◌,
+  ◌≢◌,
+  ◌++◌,
+  ◌<◌,
+  ◌^◌,
+  ℕ,
+  List,
+  IfSome,
+  IfNone,
+  ◌-◌,
+  length,
+  drop,
+  MatchOption,
+  codes,
+};
 ghost use Rattle.std.specs.Fmt.{decimal};
 ghost use Rattle.lra_ids.specs.Identifiers.{IsSpelling, id_text, action_uri};
 ghost use Rattle.lra_stories.specs.Wanted.{IsWanted, NamesNone};
@@ -52,7 +67,8 @@ fn of_id(text: &str) -> Option<Wanted>
 
 /// The base of a URI, by what stands before its identifier.
 fn base_in(front: &[u8]) -> Option<&[u8]>
-    ensures { MatchOption result ((base : List ℕ) → front.now ≢ base ++ codes "lra-coordinator/") (λ base. front.now ≡ base.now ++ codes "lra-coordinator/") }
+    ensures { MatchOption result ((base : List ℕ) → front.now ≢ base ++ codes "lra-coordinator/")
+        (λ base. front.now ≡ base.now ++ codes "lra-coordinator/") }
 {
     front.strip_suffix(ACTIONS.as_bytes())
 }

@@ -9,7 +9,8 @@ use Rattle.lra_model.specs.Addresses.{Addresses}
 use Rattle.lra_model.specs.History.{History, members, is_among}
 use Rattle.lra_model.specs.Members.{action_of, addresses_of}
 use Rattle.lra_laws.specs.Sheets.{Sheet, StandsFor}
-use Rattle.lra_laws.proofs.Legal.{Allowed, allowed, member_there_push}
+use Rattle.lra_laws.proofs.Legal.{Allowed, allowed}
+use Rattle.lra_laws.proofs.Named.{member_there_push}
 use Rattle.lra_laws.proofs.MemberWords.{action_kept, addresses_kept}
 use Rattle.lra_laws.proofs.SheetPush.{StandsFor-push}
 use Rattle.lra_laws.proofs.Told.{entry, told}

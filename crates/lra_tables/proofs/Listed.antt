@@ -12,7 +12,8 @@ use Rattle.lra_laws.specs.Sheets.{Sheet, StandsFor}
 use Rattle.lra_laws.specs.Changes.{member_awaited, members_awaited}
 use Rattle.lra_laws.proofs.AskWords.{asks_stand}
 use Rattle.lra_laws.proofs.Changes.{void_unasked}
-use Rattle.lra_laws.proofs.Legal.{range_more, asks_numbered, parent_of_none}
+use Rattle.lra_laws.proofs.Legal.{range_more, asks_numbered}
+use Rattle.lra_laws.proofs.Named.{parent_of_none}
 use Rattle.lra_rows.specs.declared.found.ActionRow.{ActionRow}
 use Rattle.lra_rows.specs.Found.{found_action}
 
@@ -55,7 +56,9 @@ one_awaited J n ks ns ms before now =
     (ap (λ (xs : List ℕ). filter_map (member_awaited J) (range_with_len 1 n) ++ xs)
     (sym (one_given (member_awaited J (n + 1))))
     ∙ sym (filter_map-append (member_awaited J) (range_with_len 1 n) ((n + 1) ∷ []))
-    ∙ ap (filter_map (member_awaited J)) (ap (λ (k : ℕ). range_with_len 1 n ++ k ∷ []) (let e : n + 1 ≡ 1 + n = omega arith in e) ∙ sym (range_more 1 n) ∙ ap (range_with_len 1) (let e : suc n ≡ n + 1 = omega arith in e)))
+    ∙ ap (filter_map (member_awaited J))
+    (ap (λ (k : ℕ). range_with_len 1 n ++ k ∷ []) (let e : n + 1 ≡ 1 + n = omega arith in e) ∙ sym (range_more 1 n)
+    ∙ ap (range_with_len 1) (let e : suc n ≡ n + 1 = omega arith in e)))
   where
     one_given : (o : Option ℕ) → cons_option o [] ≡ option_to_list o
     one_given None = refl

@@ -105,8 +105,10 @@ found_already s J key a u h =
 pub find_on : (f : ℕ → Bool) (xs : List ℕ) (r n : ℕ) → find f (take r xs) ≡ None → slice_get xs r ≡ Some n → f n ≡ false
     → find f (take (r + 1) xs) ≡ None
 find_on f [] r n none here fails = absurd cc
-find_on f (x ∷ xs) zero n none here fails = let same : x ≡ n = cc in ap (λ (b : Bool). cond b (Some x) None) (ap f same ∙ fails)
-find_on f (x ∷ xs) (suc r) n none here fails = ap (λ (k : ℕ). find f (take k (x ∷ xs))) (let e : suc r + 1 ≡ suc (r + 1) = omega arith in e) ∙ either (f x) none (λ h. find_on f xs r n h here fails)
+find_on f (x ∷ xs) zero n none here fails = let same : x ≡ n = cc in
+    ap (λ (b : Bool). cond b (Some x) None) (ap f same ∙ fails)
+find_on f (x ∷ xs) (suc r) n none here fails = ap (λ (k : ℕ). find f (take k (x ∷ xs)))
+    (let e : suc r + 1 ≡ suc (r + 1) = omega arith in e) ∙ either (f x) none (λ h. find_on f xs r n h here fails)
   where
     either : (b : Bool) → cond b (Some x) (find f (take r xs)) ≡ None →
         (find f (take r xs) ≡ None → find f (take (r + 1) xs) ≡ None) → cond b (Some x) (find f (take (r + 1) xs))
@@ -118,7 +120,8 @@ find_on f (x ∷ xs) (suc r) n none here fails = ap (λ (k : ℕ). find f (take 
 pub find_here : (f : ℕ → Bool) (xs : List ℕ) (r n : ℕ) → find f (take r xs) ≡ None → slice_get xs r ≡ Some n → f n
     ≡ true → find f xs ≡ Some n
 find_here f [] r n none here passes = absurd cc
-find_here f (x ∷ xs) zero n none here passes = let same : x ≡ n = cc in ap (λ (b : Bool). cond b (Some x) (find f xs)) (ap f same ∙ passes) ∙ ap (λ (k : ℕ). Some k) same
+find_here f (x ∷ xs) zero n none here passes = let same : x ≡ n = cc in
+    ap (λ (b : Bool). cond b (Some x) (find f xs)) (ap f same ∙ passes) ∙ ap (λ (k : ℕ). Some k) same
 find_here f (x ∷ xs) (suc r) n none here passes = either (f x) none (λ h. find_here f xs r n h here passes)
   where
     either : (b : Bool) → cond b (Some x) (find f (take r xs)) ≡ None → (find f (take r xs) ≡ None → find f xs ≡ Some n)

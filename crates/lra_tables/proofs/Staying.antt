@@ -21,7 +21,7 @@ use Rattle.lra_laws.specs.Rows.{MemberRow, member_row, row_at}
 use Rattle.lra_laws.specs.Sheets.{Contact, contact_of, Sheet, StandsFor}
 use Rattle.lra_laws.proofs.GoodLists.{filter_same}
 use Rattle.lra_laws.proofs.Legal.{Allowed, IsNumbered, range_among, numbered_there, numbered_fresh, members_numbered}
-use Rattle.lra_laws.proofs.Legal.{action_of_stays, action_of_new, addresses_stay, addresses_of_new, has_left_there}
+use Rattle.lra_laws.proofs.Named.{action_of_stays, action_of_new, addresses_stay, addresses_of_new, has_left_there}
 use Rattle.lra_laws.proofs.MemberRows.{members_stay}
 use Rattle.lra_laws.proofs.MemberWords.{status_is, left_quiet, action_kept, addresses_kept}
 use Rattle.lra_laws.proofs.Push.{members_push, has_left_push}
@@ -55,7 +55,8 @@ members_few v t J l = few (length (members J)) refl
 -- a u64 counts them
 pub staying_few : (v : Version) (t : List ℕ → Bool) (J : History) → is_legal v t J ≡ true → (key digest : ℕ)
     → length (staying_with key digest J) < 2 ^ 64
-staying_few v t J l key digest = let a = filter_shorter (has_digest key digest J) (members J) in let b = members_few v t J l in omega arith
+staying_few v t J l key digest = let a = filter_shorter (has_digest key digest J) (members J) in
+    let b = members_few v t J l in omega arith
 
 -- ---- one sheet
 
@@ -169,7 +170,8 @@ without_filter f g p same gone a (suc n) =
     ]
   where
     beyond : a ≡ p → filter f (range_with_len (a + 1) n) ≡ filter g (range_with_len (a + 1) n)
-    beyond here = filter_same f g (range_with_len (a + 1) n) (λ q h. sym (same q (λ e. let r = range_among (a + 1) n q h in omega arith)))
+    beyond here = filter_same f g (range_with_len (a + 1) n)
+        (λ q h. sym (same q (λ e. let r = range_among (a + 1) n q h in omega arith)))
 
     at_it : a ≡ p → (b : Bool) → without p (filter f (range_with_len (a + 1) n)) ≡ filter g (range_with_len (a + 1) n)
         → without p (cond b (a ∷ filter f (range_with_len (a + 1) n)) (filter f (range_with_len (a + 1) n)))

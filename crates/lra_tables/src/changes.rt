@@ -5,7 +5,14 @@ ghost use Rattle.lra_model.specs.History.{History};
 ghost use Rattle.lra_model.specs.Actions.{parent, members_of};
 ghost use Rattle.lra_model.specs.Members.{members_under};
 ghost use Rattle.lra_laws.specs.Sheets.{StandsFor};
-ghost use Rattle.lra_laws.specs.Changes.{member_awaited, members_awaited, members_changed, members_changed_by, actions_changed, actions_changed_by};
+ghost use Rattle.lra_laws.specs.Changes.{
+  member_awaited,
+  members_awaited,
+  members_changed,
+  members_changed_by,
+  actions_changed,
+  actions_changed_by,
+};
 
 use lra_model::{Deed, Entry, Memory};
 use lra_rows::Rows;

@@ -54,7 +54,8 @@ module _ {A : Type 0} (f : A → ℕ) where
       (λ some-here. (zero, x, refl, omega arith))
 
   pub no_terms : (l : List A) → ((j : ℕ) (v : A) → get_elem? l j ≡ some v → f v ≡ 0) → sum_by f l ≡ 0
-  no_terms l none = dite (ℕ_discrete (sum_by f l) 0) (λ e. e) (λ n. let t = some_term l (omega arith) in let z = none t.0 t.1 t.2 in let p = t.3 in absurd (omega arith))
+  no_terms l none = dite (ℕ_discrete (sum_by f l) 0) (λ e. e)
+      (λ n. let t = some_term l (omega arith) in let z = none t.0 t.1 t.2 in let p = t.3 in absurd (omega arith))
 
 module _ {A : Type 0} where
   -- changes at two places can be made in either order

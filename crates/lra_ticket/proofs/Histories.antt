@@ -58,7 +58,8 @@ shorter_begins : (a b c : List Entry) → IsPrefix a c → IsPrefix b c → leng
 shorter_begins [] b c p q h = (b, refl)
 shorter_begins (x ∷ xs) [] c p q h = absurd (omega arith)
 shorter_begins (x ∷ xs) (y ∷ ys) [] p q h = absurd (omega (arith, ap length p.1))
-shorter_begins (x ∷ xs) (y ∷ ys) (z ∷ zs) p q h = let p₁ = p.1 in let q₁ = q.1 in let same : x ≡ y = cc in let t = shorter_begins xs ys zs (p.0, ap (drop 1) p.1) (q.0, ap (drop 1) q.1) (omega arith) in
+shorter_begins (x ∷ xs) (y ∷ ys) (z ∷ zs) p q h = let p₁ = p.1 in let q₁ = q.1 in let same : x ≡ y = cc in
+    let t = shorter_begins xs ys zs (p.0, ap (drop 1) p.1) (q.0, ap (drop 1) q.1) (omega arith) in
     (t.0, (λ i. same i ∷ t.1 i))
 
 pub in_line : (a b c : List Entry) → IsPrefix a c → IsPrefix b c → Comparable a b
@@ -71,7 +72,9 @@ pub longer_cases : (P : List Entry → Type 0) (a b c : List Entry) → IsPrefix
 longer_cases P a b c p q second first = dite (dec_le (length b) (length a))
     (λ h. subst (λ (t : Bool). P (cond t b a)) (sym (le-ltb (length a) (length b) h))
     (first (shorter_begins b a c q p h)))
-    (λ h. let less : length a < length b = omega arith in subst (λ (t : Bool). P (cond t b a)) (sym (lt-ltb (length a) (length b) less)) (second (shorter_begins a b c p q (omega arith))))
+    (λ h. let less : length a < length b = omega arith in
+    subst (λ (t : Bool). P (cond t b a)) (sym (lt-ltb (length a) (length b) less))
+    (second (shorter_begins a b c p q (omega arith))))
 
 -- the same for two histories of which one begins the other
 pub longer_of : (P : List Entry → Type 0) (a b : List Entry) → Comparable a b → (IsPrefix a b → P b)

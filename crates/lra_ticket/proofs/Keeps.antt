@@ -111,8 +111,12 @@ ticket_between : (next serving : ℕ) (log seen : List Entry) (t : ℕ) (p : Pla
     < has_ticket t p → (serving ≤ t) × (t < next)
 ticket_between next serving log seen t Idle h has = absurd (omega arith)
 ticket_between next serving log seen t (Looked n) h has = absurd (omega arith)
-ticket_between next serving log seen t (Waiting u) h has = dite (ℕ_discrete u t) (λ e. let a = h.0 in let b = h.1 in (omega arith, omega arith)) (λ n. absurd (omega (arith, ap one_if (ne_eqb u t n))))
-ticket_between next serving log seen t (Holding u) h has = dite (ℕ_discrete u t) (λ e. let a = h.0 in let b = h.1 in (omega arith, omega arith)) (λ n. absurd (omega (arith, ap one_if (ne_eqb u t n))))
+ticket_between next serving log seen t (Waiting u) h has = dite (ℕ_discrete u t)
+    (λ e. let a = h.0 in let b = h.1 in (omega arith, omega arith))
+    (λ n. absurd (omega (arith, ap one_if (ne_eqb u t n))))
+ticket_between next serving log seen t (Holding u) h has = dite (ℕ_discrete u t)
+    (λ e. let a = h.0 in let b = h.1 in (omega arith, omega arith))
+    (λ n. absurd (omega (arith, ap one_if (ne_eqb u t n))))
 ticket_between next serving log seen t (Peeked s) h has = absurd (omega arith)
 ticket_between next serving log seen t (Missed s n) h has = absurd (omega arith)
 ticket_between next serving log seen t (Paired k a) h has = absurd (omega arith)
@@ -124,7 +128,8 @@ holder_has : (next serving : ℕ) (log seen : List Entry) (p : Place) → IsPlac
 holder_has next serving log seen Idle h has = absurd (omega arith)
 holder_has next serving log seen (Looked n) h has = absurd (omega arith)
 holder_has next serving log seen (Waiting u) h has = absurd (omega arith)
-holder_has next serving log seen (Holding u) h has = let a = h.0 in let b = h.1 in (ap one_if (eq-eqb u serving h.0), omega arith)
+holder_has next serving log seen (Holding u) h has = let a = h.0 in let b = h.1 in
+    (ap one_if (eq-eqb u serving h.0), omega arith)
 holder_has next serving log seen (Peeked s) h has = absurd (omega arith)
 holder_has next serving log seen (Missed s n) h has = absurd (omega arith)
 holder_has next serving log seen (Paired k a) h has = absurd (omega arith)
@@ -177,7 +182,8 @@ module _ {X O : Type 0} (origin : X → O) (history : X → List Entry) (lawful 
         (λ (t : (j ≢ id) × (get_elem? s.views j ≡ some u)). others j u t.0 t.1 (r.each j u t.1))
         (at_set s.views id j w u e);
     one_ticket = λ t. let moved-by = sum_by-at (tickets t) s.views id v w at in let bound = ticket t in omega arith;
-    one_number = λ n some-n. let moved-by = sum_by-at (numbers n) s.views id v w at in let bound = number n some-n in omega arith;
+    one_number = λ n some-n. let moved-by = sum_by-at (numbers n) s.views id v w at in let bound = number n some-n in
+        omega arith;
   }
 
   grown : (r-next next' serving : ℕ) (log : List Entry) → r-next ≤ next' → (u : View O) → Stands o r-next serving log u
@@ -194,7 +200,15 @@ module _ {X O : Type 0} (origin : X → O) (history : X → List Entry) (lawful 
       → IsHome origin history lawful o r.log record { words = words'; homes = s.homes; views = set s.views id w }
       ⊎ IsOut {X = X} record { words = words'; homes = s.homes; views = set s.views id w }
   same_slot s r id v w words' at same = let moved-by = sum_by-at holders s.views id v w at in
-      ⊎_elim (λ (h : IsHome origin history lawful o r.log s). inl record { value = h.value; stored = h.stored; lawful_now = h.lawful_now; same_origin = h.same_origin; has_log = h.has_log; free = let none = h.free in omega arith })
+      ⊎_elim (λ (h : IsHome origin history lawful o r.log s).
+      inl record {
+        value = h.value;
+        stored = h.stored;
+        lawful_now = h.lawful_now;
+        same_origin = h.same_origin;
+        has_log = h.has_log;
+        free = let none = h.free in omega arith;
+      })
       (λ (h : IsOut s). inr record { empty = h.empty; held = let one = h.held in omega arith }) r.slot
 
   -- a step that leaves the slot and the history, and may draw tickets
@@ -204,8 +218,10 @@ module _ {X O : Type 0} (origin : X → O) (history : X → List Entry) (lawful 
       ≤ 1 + tickets t v) → ((n : ℕ) → numbers n w ≤ numbers n v)
       → Rule record { words = words'; homes = s.homes; views = set s.views id w }
   leaves s r id v w words' next' at is more fits same mine ticket number =
-      steps s r id v w words' s.homes next' r.serving r.log at is (let below = r.served in omega arith) fits r.from_one (same_slot s r id v w words' at same) mine
-      (λ j u other e h. grown r.next next' r.serving r.log more u h) ticket (λ n some-n. let bound = r.one_number n some-n in let kept = number n in omega arith)
+      steps s r id v w words' s.homes next' r.serving r.log at is (let below = r.served in omega arith) fits r.from_one
+      (same_slot s r id v w words' at same) mine
+      (λ j u other e h. grown r.next next' r.serving r.log more u h) ticket
+      (λ n some-n. let bound = r.one_number n some-n in let kept = number n in omega arith)
 
   -- a load, with this view after it
   abbrev Loads : St → ℕ → ℕ → View O → Type 0
@@ -224,13 +240,15 @@ module _ {X O : Type 0} (origin : X → O) (history : X → List Entry) (lawful 
       → is_resting v.place ≡ true → is_resting p ≡ true
       → ((t : ℕ) → has_ticket t p ≡ 0) → IsPlaced r.next r.serving r.log v.seen p
       → Loads s i id (record v { tries = tries; place = p })
-  loads s r i id v tries p at rested rests no-ticket placed = let w : View O = record v { tries = tries; place = p } in let h = r.each id v at in let a = rests_alone (own v) v.place rested in let b = rests_alone (own v) p rests in
+  loads s r i id v tries p at rested rests no-ticket placed = let w : View O = record v { tries = tries; place = p } in
+      let h = r.each id v at in let a = rests_alone (own v) v.place rested in let b = rests_alone (own v) p rests in
       subst (λ (ws : List ℕ). Rule record { words = ws; homes = s.homes; views = set s.views id w })
       (sym (word_again s r i))
       (leaves s r id v w s.words r.next at r.atomic_words (omega arith) r.small
       (rests_free p rests ∙ sym (rests_free v.place rested))
       record { placed = placed; fits = subst (AllByRecursion (Fits o r.log)) (a ∙ sym b) h.fits }
-      (λ t. let one = r.one_ticket t in let none = no-ticket t in omega arith) (λ n. let same = ap (bearers n) (b ∙ sym a) in omega arith))
+      (λ t. let one = r.one_ticket t in let none = no-ticket t in omega arith)
+      (λ n. let same = ap (bearers n) (b ∙ sym a) in omega arith))
 
   unmoved : (s : St) (r : Rule s) (i id : ℕ) (v : View O) → get_elem? s.views id ≡ some v → Loads s i id v
   unmoved s r i id v at =
@@ -239,42 +257,49 @@ module _ {X O : Type 0} (origin : X → O) (history : X → List Entry) (lawful 
 
   pub looks : (slots id : ℕ) (m : M) → is_resting m.0.place ≡ true → Allows Rule slots id m 0 (λ n. n)
       (looked (step slots 0 0 0 none) m)
-  looks slots id m rested s r deep at fits = let n : ℕ = get_or s.words 0 0 in let is : n ≡ r.next = ap (λ (ws : List ℕ). get_or ws 0 0) r.atomic_words in (
-    moved m.0 (Looked n),
-    keeps,
-    tt,
-    loads s r 0 id m.0 m.0.tries (Looked n) at rested refl (λ t. refl)
-        (omega arith),
-    refl,
-  )
+  looks slots id m rested s r deep at fits = let n : ℕ = get_or s.words 0 0 in
+      let is : n ≡ r.next = ap (λ (ws : List ℕ). get_or ws 0 0) r.atomic_words in (
+        moved m.0 (Looked n),
+        keeps,
+        tt,
+        loads s r 0 id m.0 m.0.tries (Looked n) at rested refl (λ t. refl)
+            (omega arith),
+        refl,
+      )
 
   pub peeks : (slots id : ℕ) (m : M) → is_resting m.0.place ≡ true → Allows Rule slots id m 1 (λ n. n)
       (peeked (step slots 1 0 0 none) m)
-  peeks slots id m rested s r deep at fits = let n : ℕ = get_or s.words 1 0 in let is : n ≡ r.serving = ap (λ (ws : List ℕ). get_or ws 1 0) r.atomic_words in (
-    peeking m.0 n,
-    keeps,
-    tt,
-    loads s r 1 id m.0 (m.0.tries + 1) (Peeked n) at rested refl (λ t. refl) (omega arith),
-    refl,
-  )
+  peeks slots id m rested s r deep at fits = let n : ℕ = get_or s.words 1 0 in
+      let is : n ≡ r.serving = ap (λ (ws : List ℕ). get_or ws 1 0) r.atomic_words in (
+        peeking m.0 n,
+        keeps,
+        tt,
+        loads s r 1 id m.0 (m.0.tries + 1) (Peeked n) at rested refl (λ t. refl) (omega arith),
+        refl,
+      )
 
   -- no view has a ticket that was not drawn
   undrawn : (s : St) (r : Rule s) (t : ℕ) → r.next ≤ t → sum_by (tickets t) s.views ≡ 0
   undrawn s r t late = no_terms (tickets t) s.views (λ j u e. dite (ℕ_discrete (tickets t u) 0) (λ z. z)
-      (λ n. let b = ticket_between r.next r.serving r.log u.seen t u.place (r.each j u e).placed (omega arith) in let low = b.1 in absurd (omega arith)))
+      (λ n. let b = ticket_between r.next r.serving r.log u.seen t u.place (r.each j u e).placed (omega arith) in
+      let low = b.1 in absurd (omega arith)))
 
   fresh_ticket : (s : St) (r : Rule s) (t : ℕ) → r.next ≡ t → (u : ℕ) → sum_by (tickets u) s.views + one_if (eqb t u)
       ≤ 1
-  fresh_ticket s r t is u = dite (ℕ_discrete t u) (λ e. let none = undrawn s r u (omega arith) in let one = ap one_if (eq-eqb t u e) in omega arith) (λ n. let one = r.one_ticket u in let none = ap one_if (ne_eqb t u n) in omega arith)
+  fresh_ticket s r t is u = dite (ℕ_discrete t u)
+      (λ e. let none = undrawn s r u (omega arith) in let one = ap one_if (eq-eqb t u e) in omega arith)
+      (λ n. let one = r.one_ticket u in let none = ap one_if (ne_eqb t u n) in omega arith)
 
   pub draws : (slots id : ℕ) (m : M) (t : ℕ) → m.0.place ≡ Looked t → t + 1 < 2 ^ 64
       → Allows Rule slots id m 0 (λ n. either (eqb n t) (t + 1) n) (drew (step slots 0 t (t + 1) none) m)
-  draws slots id m t looked-at small s r deep at fits = let n : ℕ = get_or s.words 0 0 in let is : n ≡ r.next = ap (λ (ws : List ℕ). get_or ws 0 0) r.atomic_words in
+  draws slots id m t looked-at small s r deep at fits = let n : ℕ = get_or s.words 0 0 in
+      let is : n ≡ r.next = ap (λ (ws : List ℕ). get_or ws 0 0) r.atomic_words in
       let h = r.each id m.0 at in let v = m.0 in let alone : sights v ≡ own v ∷ [] = ap (sights_at (own v)) looked-at in
       let G : ℕ → Type 0 = λ x. (w : View O) × (a : Act (Option X)) × Valid s.homes m.1 a
       × Rule (stepped s 0 x id m.1 w a) × drew (step slots 0 t (t + 1) none) m n (w, carried_after m.1 a) in
       exchanged n t (t + 1) G
-      (λ hit. let below = r.served in let free = ap holds_lock looked-at in let unticketed = λ (u : ℕ). ap (has_ticket u) looked-at in let drawn = fresh_ticket s r t (sym is ∙ hit) in (
+      (λ hit. let below = r.served in let free = ap holds_lock looked-at in
+      let unticketed = λ (u : ℕ). ap (has_ticket u) looked-at in let drawn = fresh_ticket s r t (sym is ∙ hit) in (
         moved v (Waiting t),
         keeps,
         tt,
@@ -289,14 +314,15 @@ module _ {X O : Type 0} (origin : X → O) (history : X → List Entry) (lawful 
   -- the value at home suits each view that counts as one
   suits : (s : St) (r : Rule s) (h : IsHome origin history lawful o r.log s) (id : ℕ) (v : View O)
       → get_elem? s.views id ≡ some v → sights v ≡ own v ∷ [] → Suits origin history lawful v h.value
-  suits s r h id v at alone = let f = subst (AllByRecursion (Fits o r.log)) alone (r.each id v at).fits in let fit = f.0 in record {
-    lawful_now = h.lawful_now;
-    same_origin = h.same_origin ∙ sym fit.same_origin;
-    begins = subst (IsPrefix v.seen) (sym h.has_log) fit.begins;
-    seen_own = sym fit.own;
-    own = ap (entries_by v.number) h.has_log ∙ (fit.all_seen ∙ sym fit.own);
-    enrolled = fit.enrolled;
-  }
+  suits s r h id v at alone = let f = subst (AllByRecursion (Fits o r.log)) alone (r.each id v at).fits in
+      let fit = f.0 in record {
+        lawful_now = h.lawful_now;
+        same_origin = h.same_origin ∙ sym fit.same_origin;
+        begins = subst (IsPrefix v.seen) (sym h.has_log) fit.begins;
+        seen_own = sym fit.own;
+        own = ap (entries_by v.number) h.has_log ∙ (fit.all_seen ∙ sym fit.own);
+        enrolled = fit.enrolled;
+      }
 
   -- the slot goes to the seat, whose ticket is served
   handed : (s : St) (r : Rule s) (h : IsHome origin history lawful o r.log s) (id : ℕ) (v : View O) (t next' : ℕ)
@@ -309,9 +335,11 @@ module _ {X O : Type 0} (origin : X → O) (history : X → List Entry) (lawful 
         views =
             set s.views id (taking v t (history h.value));
       }
-  handed s r h id v t next' words' at alone is-served low more small is unheld ticket = let w : View O = taking v t (history h.value) in let f = subst (AllByRecursion (Fits o r.log)) alone (r.each id v at).fits in let fit = f.0 in
+  handed s r h id v t next' words' at alone is-served low more small is unheld ticket = let w : View O = taking v t
+      (history h.value) in let f = subst (AllByRecursion (Fits o r.log)) alone (r.each id v at).fits in let fit = f.0 in
       let moved-by = sum_by-at holders s.views id v w at in let none-held = h.free in
-      steps s r id v w words' (set s.homes 0 none) next' r.serving r.log at is (let below = r.served in omega arith) small r.from_one
+      steps s r id v w words' (set s.homes 0 none) next' r.serving r.log at is
+      (let below = r.served in omega arith) small r.from_one
       (inr record { empty = ap (λ (hs : Homes). set hs 0 none) h.stored; held = omega arith })
       record {
         placed = (is-served, low, h.has_log);
@@ -326,28 +354,41 @@ module _ {X O : Type 0} (origin : X → O) (history : X → List Entry) (lawful 
           tt,
         );
       }
-      (λ j u other e k. grown r.next next' r.serving r.log more u k) ticket (λ n some-n. let one = r.one_number n some-n in let same = ap (bearers n) alone in omega arith)
+      (λ j u other e k. grown r.next next' r.serving r.log more u k) ticket
+      (λ n some-n. let one = r.one_number n some-n in let same = ap (bearers n) alone in omega arith)
 
   -- the value is at home where the seat, which does not hold the lock, has the ticket that is served
   home_at_turn : (s : St) (r : Rule s) (id : ℕ) (v : View O) → get_elem? s.views id ≡ some v → holders v ≡ 0
       → tickets r.serving v ≡ 1 → IsHome origin history lawful o r.log s
   home_at_turn s r id v at unheld has = ⊎_elim (λ (h : IsHome origin history lawful o r.log s). h)
-      (λ (h : IsOut s). let held = h.held in let t = some_term holders s.views (omega arith) in let j = t.0 in let u = t.1 in let holds = t.3 in let k = holder_has r.next r.serving r.log u.seen u.place (r.each j u t.2).placed t.3 in
-      let both = terms_le (tickets r.serving) s.views id j v u (λ e. let same : v ≡ u = some-injective v u (sym at ∙ (ap (get_elem? s.views) (sym e) ∙ t.2)) in let z = ap holders same in omega arith) at t.2 in
+      (λ (h : IsOut s). let held = h.held in let t = some_term holders s.views (omega arith) in let j = t.0 in
+      let u = t.1 in let holds = t.3 in
+      let k = holder_has r.next r.serving r.log u.seen u.place (r.each j u t.2).placed t.3 in
+      let both = terms_le (tickets r.serving) s.views id j v u
+      (λ e. let same : v ≡ u = some-injective v u (sym at ∙ (ap (get_elem? s.views) (sym e) ∙ t.2)) in
+      let z = ap holders same in omega arith) at t.2 in
       let one = r.one_ticket r.serving in let k₀ = k.0 in absurd (omega arith)) r.slot
 
   -- and where no ticket is drawn that is not served
   home_at_rest : (s : St) (r : Rule s) → r.next ≡ r.serving → IsHome origin history lawful o r.log s
   home_at_rest s r same = ⊎_elim (λ (h : IsHome origin history lawful o r.log s). h)
-      (λ (h : IsOut s). let held = h.held in let t = some_term holders s.views (omega arith) in let j = t.0 in let u = t.1 in let k = holder_has r.next r.serving r.log u.seen u.place (r.each j u t.2).placed t.3 in let k₁ = k.1 in absurd (omega arith)) r.slot
+      (λ (h : IsOut s). let held = h.held in let t = some_term holders s.views (omega arith) in let j = t.0 in
+      let u = t.1 in let k = holder_has r.next r.serving r.log u.seen u.place (r.each j u t.2).placed t.3 in
+      let k₁ = k.1 in absurd (omega arith)) r.slot
 
   pub watches : (slots id : ℕ) (m : M) (t : ℕ) → m.0.place ≡ Waiting t
       → Allows Rule slots id m 1 (λ n. n) (watched origin history lawful (step slots 1 0 0 none) m)
-  watches slots id m t waiting s r deep at fits = let n : ℕ = get_or s.words 1 0 in let is : n ≡ r.serving = ap (λ (ws : List ℕ). get_or ws 1 0) r.atomic_words in let v = m.0 in
-      let alone : sights v ≡ own v ∷ [] = ap (sights_at (own v)) waiting in let placed = subst (IsPlaced r.next r.serving r.log v.seen) waiting (r.each id v at).placed in let ticketed = λ (u : ℕ). ap (has_ticket u) waiting in
-      let ticket-of : (u : ℕ) → m.0.place ≡ Waiting u → t ≡ u = λ u e. (let same : Waiting t ≡ Waiting u = sym waiting ∙ e in cc) in
+  watches slots id m t waiting s r deep at fits = let n : ℕ = get_or s.words 1 0 in
+      let is : n ≡ r.serving = ap (λ (ws : List ℕ). get_or ws 1 0) r.atomic_words in let v = m.0 in
+      let alone : sights v ≡ own v ∷ [] = ap (sights_at (own v)) waiting in
+      let placed = subst (IsPlaced r.next r.serving r.log v.seen) waiting (r.each id v at).placed in
+      let ticketed = λ (u : ℕ). ap (has_ticket u) waiting in
+      let ticket-of : (u : ℕ) → m.0.place ≡ Waiting u
+      → t ≡ u = λ u e. (let same : Waiting t ≡ Waiting u = sym waiting ∙ e in cc) in
       dite (ℕ_discrete n t)
-      (λ served. let turn : t ≡ r.serving = sym served ∙ is in let h = home_at_turn s r id v at (ap holds_lock waiting) (ticketed r.serving ∙ ap one_if (eq-eqb t r.serving turn)) in let x = h.value in let low = placed.1 in (
+      (λ served. let turn : t ≡ r.serving = sym served ∙ is in
+      let h = home_at_turn s r id v at (ap holds_lock waiting)
+      (ticketed r.serving ∙ ap one_if (eq-eqb t r.serving turn)) in let x = h.value in let low = placed.1 in (
         taking v t (history x),
         takes 0 (Some x),
         ap (λ (hs : Homes). get_elem? hs 0) h.stored,
@@ -357,7 +398,8 @@ module _ {X O : Type 0} (origin : X → O) (history : X → List Entry) (lawful 
           views =
               set s.views id (taking v t (history x));
         }) (sym (word_again s r 1))
-            (handed s r h id v t r.next s.words at alone turn placed.1 (omega arith) r.small r.atomic_words (ap holds_lock waiting) (λ u. let one = r.one_ticket u in let mine = ticketed u in omega arith)),
+            (handed s r h id v t r.next s.words at alone turn placed.1 (omega arith) r.small r.atomic_words
+            (ap holds_lock waiting) (λ u. let one = r.one_ticket u in let mine = ticketed u in omega arith)),
         λ u e. (
           (λ _. subst (λ (k : ℕ). Takes origin history lawful k m (taking v t (history x), (0, Some x) ∷ m.1))
               (ticket-of u e) (x, suits s r h id v at alone, refl)),
@@ -378,18 +420,24 @@ module _ {X O : Type 0} (origin : X → O) (history : X → List Entry) (lawful 
   pub grabs : (slots id : ℕ) (m : M) (t : ℕ) → m.0.place ≡ Peeked t → t + 1 < 2 ^ 64
       → Allows Rule slots id m 0 (λ n. either (eqb n t) (t + 1) n) (grabbed origin history lawful
       (step slots 0 t (t + 1) none) m)
-  grabs slots id m t peeked-at small s r deep at fits = let n : ℕ = get_or s.words 0 0 in let is : n ≡ r.next = ap (λ (ws : List ℕ). get_or ws 0 0) r.atomic_words in
-      let v = m.0 in let alone : sights v ≡ own v ∷ [] = ap (sights_at (own v)) peeked-at in let low : t ≤ r.serving = subst (IsPlaced r.next r.serving r.log v.seen) peeked-at (r.each id v at).placed in
-      let below = r.served in let free = ap holds_lock peeked-at in let unticketed = λ (u : ℕ). ap (has_ticket u) peeked-at in
+  grabs slots id m t peeked-at small s r deep at fits = let n : ℕ = get_or s.words 0 0 in
+      let is : n ≡ r.next = ap (λ (ws : List ℕ). get_or ws 0 0) r.atomic_words in
+      let v = m.0 in let alone : sights v ≡ own v ∷ [] = ap (sights_at (own v)) peeked-at in
+      let low : t ≤ r.serving = subst (IsPlaced r.next r.serving r.log v.seen) peeked-at (r.each id v at).placed in
+      let below = r.served in let free = ap holds_lock peeked-at in
+      let unticketed = λ (u : ℕ). ap (has_ticket u) peeked-at in
       let G : ℕ → Type 0 = λ y. (w : View O) × (a : Act (Option X)) × Valid s.homes m.1 a
       × Rule (stepped s 0 y id m.1 w a) × grabbed origin history lawful (step slots 0 t (t + 1) none) m n
       (w, carried_after m.1 a) in
       exchanged n t (t + 1) G
-      (λ hit. let turn : t ≡ r.serving = omega arith in let h = home_at_rest s r (omega arith) in let x = h.value in let drawn = fresh_ticket s r t (sym is ∙ hit) in (
+      (λ hit. let turn : t ≡ r.serving = omega arith in let h = home_at_rest s r (omega arith) in let x = h.value in
+      let drawn = fresh_ticket s r t (sym is ∙ hit) in (
         taking v t (history x),
         takes 0 (Some x),
         ap (λ (hs : Homes). get_elem? hs 0) h.stored,
-        handed s r h id v t (t + 1) (set s.words 0 (t + 1)) at alone turn (omega arith) (omega arith) small (ap (λ (ws : List ℕ). set ws 0 (t + 1)) r.atomic_words) free (λ u. let bound = drawn u in let none-yet = unticketed u in omega arith),
+        handed s r h id v t (t + 1) (set s.words 0 (t + 1)) at alone turn (omega arith) (omega arith) small
+            (ap (λ (ws : List ℕ). set ws 0 (t + 1)) r.atomic_words) free
+            (λ u. let bound = drawn u in let none-yet = unticketed u in omega arith),
         ((λ _. (x, suits s r h id v at alone, refl)), λ miss. absurd (miss hit)),
       ))
       (λ miss. (
@@ -435,17 +483,25 @@ module _ {X O : Type 0} (origin : X → O) (history : X → List Entry) (lawful 
       → origin x ≡ m.0.origin → IsPrefix m.0.seen (history x) → MayAdd m.0.number m.0.seen
       (block_after m.0.seen (history x))
       → Allows Rule slots id m 1 (λ _. t + 1) (λ _. gave history (step slots 1 (t + 1) 0 none) m (t + 1))
-  gives_back slots id m t x holding small carried ok law from-here begins may s r deep at fits = let v = m.0 in let block = block_after v.seen (history x) in let w : View O = given v (history x) in
-      let alone : sights v ≡ own v ∷ [] = ap (sights_at (own v)) holding in let stand = r.each id v at in let f = subst (AllByRecursion (Fits o r.log)) alone stand.fits in let fit = f.0 in
-      let placed = subst (IsPlaced r.next r.serving r.log v.seen) holding stand.placed in let turn = placed.0 in let low = placed.1 in let seen-log : v.seen ≡ r.log = placed.2 in
+  gives_back slots id m t x holding small carried ok law from-here begins may s r deep at fits = let v = m.0 in
+      let block = block_after v.seen (history x) in let w : View O = given v (history x) in
+      let alone : sights v ≡ own v ∷ [] = ap (sights_at (own v)) holding in let stand = r.each id v at in
+      let f = subst (AllByRecursion (Fits o r.log)) alone stand.fits in let fit = f.0 in
+      let placed = subst (IsPlaced r.next r.serving r.log v.seen) holding stand.placed in let turn = placed.0 in
+      let low = placed.1 in let seen-log : v.seen ≡ r.log = placed.2 in
       let longer-by : r.log ++ block ≡ history x = ap (λ (l : List Entry). l ++ block) (sym seen-log)
       ∙ whole v.seen (history x) begins in
       let may-log : MayAdd v.number r.log block = subst (λ (l : List Entry). MayAdd v.number l block) seen-log may in
       let none-zero : entries_by 0 v.seen ≡ [] = ap (entries_by 0) seen-log ∙ r.from_one in
-      let k : ℕ = number_after v.number block in let mine-after : v.mine ++ block ≡ entries_by k (history x) = entries_by-given v.number v.seen block v.mine may fit.own none-zero ∙ ap (entries_by k) (whole v.seen (history x) begins) in
-      let holds-one = ap holds_lock holding in let has-one = ap (has_ticket r.serving) holding ∙ ap one_if (eq-eqb t r.serving turn) in
+      let k : ℕ = number_after v.number block in
+      let mine-after : v.mine ++ block ≡ entries_by k (history x) =
+      entries_by-given v.number v.seen block v.mine may fit.own none-zero
+      ∙ ap (entries_by k) (whole v.seen (history x) begins) in
+      let holds-one = ap holds_lock holding in
+      let has-one = ap (has_ticket r.serving) holding ∙ ap one_if (eq-eqb t r.serving turn) in
       let moved-by = sum_by-at holders s.views id v w at in
-      let is-out : IsOut s = ⊎_elim (λ (h : IsHome origin history lawful o r.log s). let none-held = h.free in let mine = term_le holders s.views id v at in absurd (omega arith)) (λ (h : IsOut s). h) r.slot in
+      let is-out : IsOut s = ⊎_elim (λ (h : IsHome origin history lawful o r.log s). let none-held = h.free in
+      let mine = term_le holders s.views id v at in absurd (omega arith)) (λ (h : IsOut s). h) r.slot in
       let one-held = is-out.held in
       let no-zero-block : block ≢ [] → k ≢ 0 = may.numbered in
       -- another view's number is not the one after the block
@@ -458,8 +514,11 @@ module _ {X O : Type 0} (origin : X → O) (history : X → List Entry) (lawful 
       (λ some-added. entries_by-others y.number v.number r.log block may-log (λ same. dite (ℕ_discrete v.number 0)
       (λ z. fy.enrolled (λ y0. no-zero-block some-added (sym same ∙ y0))
       (fy.own ∙ (sym fy.all_seen ∙ (ap (λ (i : ℕ). entries_by i r.log) same ∙ may-log.fresh z some-added))))
-      (λ some-number. let same' : y.number ≡ v.number = same ∙ number_after-kept v.number block some-number in let both = terms_le (numbers v.number) s.views id j v u other at e in let one = r.one_number v.number some-number in
-      let mine = ap (bearers v.number) alone in let here = ap one_if (eq-eqb v.number v.number refl) in let theirs = ap (λ (i : ℕ). bearers i (sights u)) same' in absurd (omega arith)))) in (
+      (λ some-number. let same' : y.number ≡ v.number = same ∙ number_after-kept v.number block some-number in
+      let both = terms_le (numbers v.number) s.views id j v u other at e in
+      let one = r.one_number v.number some-number in
+      let mine = ap (bearers v.number) alone in let here = ap one_if (eq-eqb v.number v.number refl) in
+      let theirs = ap (λ (i : ℕ). bearers i (sights u)) same' in absurd (omega arith)))) in (
         w,
         gives,
         tt,
@@ -493,20 +552,27 @@ module _ {X O : Type 0} (origin : X → O) (history : X → List Entry) (lawful 
                 tt,
               );
             }
-            (λ j u other e h. let both = terms_le (tickets r.serving) s.views id j v u other at e in let one = r.one_ticket r.serving in record {
+            (λ j u other e h. let both = terms_le (tickets r.serving) s.views id j v u other at e in
+            let one = r.one_ticket r.serving in record {
               placed = placed_served r.next r.serving r.log (history x) u.seen u.place (omega arith) h.placed;
               fits = subst (λ (l : List Entry). AllByRecursion (Fits o l) (sights u)) longer-by
                   (fits_on r.log block (sights u) h.fits (apart j u other e));
             })
             (λ u. let one = r.one_ticket u in omega arith)
-            (λ n some-n. let one = r.one_number n some-n in let before = ap (bearers n) alone in dite (ℕ_discrete v.number 0)
+            (λ n some-n. let one = r.one_number n some-n in let before = ap (bearers n) alone in
+            dite (ℕ_discrete v.number 0)
             (λ z. nil_cases (sum_by (numbers n) s.views + (one_if (eqb k n) + 0) ≤ 1 + numbers n v) block
-            (λ none-added. let same = ap (λ (i : ℕ). one_if (eqb i n)) (number_after-none v.number block none-added) in omega arith)
+            (λ none-added. let same = ap (λ (i : ℕ). one_if (eqb i n)) (number_after-none v.number block none-added) in
+            omega arith)
             (λ some-added. dite (ℕ_discrete k n)
-            (λ e. let none-yet = unborne s r n some-n (ap (λ (i : ℕ). entries_by i r.log) (sym e) ∙ may-log.fresh z some-added) in let here = ap one_if (eq-eqb k n e) in omega arith)
+            (λ e. let none-yet = unborne s r n some-n
+            (ap (λ (i : ℕ). entries_by i r.log) (sym e) ∙ may-log.fresh z some-added) in
+            let here = ap one_if (eq-eqb k n e) in omega arith)
             (λ ne. let here = ap one_if (ne_eqb k n ne) in omega arith)))
-            (λ some-number. let same = ap (λ (i : ℕ). one_if (eqb i n)) (number_after-kept v.number block some-number) in omega arith))),
-        λ y e. let same : x ≡ y = ap (value_or x) (sym carried ∙ e) in ap (λ (z : X). (given v (history z), rest m.1)) same,
+            (λ some-number. let same = ap (λ (i : ℕ). one_if (eqb i n))
+            (number_after-kept v.number block some-number) in omega arith))),
+        λ y e. let same : x ≡ y = ap (value_or x) (sym carried ∙ e) in
+            ap (λ (z : X). (given v (history z), rest m.1)) same,
       )
 
   -- one more view, which holds nothing
@@ -520,17 +586,31 @@ module _ {X O : Type 0} (origin : X → O) (history : X → List Entry) (lawful 
     atomic_words = r.atomic_words;
     served = r.served;
     small = r.small;
-    slot = ⊎_elim (λ (h : IsHome origin history lawful o r.log s). inl record { value = h.value; stored = h.stored; lawful_now = h.lawful_now; same_origin = h.same_origin; has_log = h.has_log; free = let none-held = h.free in let more = sum_by_push holders s.views w in omega arith })
-        (λ (h : IsOut s). inr record { empty = h.empty; held = let one = h.held in let more = sum_by_push holders s.views w in omega arith }) r.slot;
+    slot = ⊎_elim (λ (h : IsHome origin history lawful o r.log s).
+        inl record {
+          value = h.value;
+          stored = h.stored;
+          lawful_now = h.lawful_now;
+          same_origin = h.same_origin;
+          has_log = h.has_log;
+          free = let none-held = h.free in let more = sum_by_push holders s.views w in omega arith;
+        })
+        (λ (h : IsOut s). inr record {
+          empty = h.empty;
+          held = let one = h.held in
+              let more = sum_by_push holders s.views w in omega arith;
+        }) r.slot;
     from_one = r.from_one;
     each = λ j u e. ⊎_elim (r.each j u) (λ (same : w ≡ u). subst (Stands o r.next r.serving r.log) same stands)
         (at_snoc s.views w u j e);
-    one_ticket = λ t. let one = r.one_ticket t in let none-here = unticketed t in let more = sum_by_push (tickets t) s.views w in omega arith;
+    one_ticket = λ t. let one = r.one_ticket t in let none-here = unticketed t in
+        let more = sum_by_push (tickets t) s.views w in omega arith;
     one_number = λ n some-n. let bound = number n some-n in let more = sum_by_push (numbers n) s.views w in omega arith;
   }
 
   pub branches : (id : ℕ) (v : View O) → is_resting v.place ≡ true → Splits Rule id v v (newcomer v)
-  branches id v rested s r at = let f = subst (AllByRecursion (Fits o r.log)) (rests_alone (own v) v.place rested) (r.each id v at).fits in let fit = f.0 in let none-zero = entries_by-none 0 v.seen r.log fit.begins r.from_one in
+  branches id v rested s r at = let f = subst (AllByRecursion (Fits o r.log)) (rests_alone (own v) v.place rested)
+      (r.each id v at).fits in let fit = f.0 in let none-zero = entries_by-none 0 v.seen r.log fit.begins r.from_one in
       subst (λ (vs : List (View O)). Rule record { words = s.words; homes = s.homes; views = vs ++ newcomer v ∷ [] })
       (sym (set_again s.views id v at))
       (adds s r (newcomer v)
@@ -548,7 +628,8 @@ module _ {X O : Type 0} (origin : X → O) (history : X → List Entry) (lawful 
           tt,
         );
       }
-      refl (λ t. refl) (λ n some-n. let one = r.one_number n some-n in let zero-here = ap one_if (ne_eqb 0 n (λ e. some-n (sym e))) in omega arith))
+      refl (λ t. refl) (λ n some-n. let one = r.one_number n some-n in
+      let zero-here = ap one_if (ne_eqb 0 n (λ e. some-n (sym e))) in omega arith))
 
   -- a seat at rest is spent
   spends : (s : St) (r : Rule s) (id : ℕ) (v : View O) (blank : O) → get_elem? s.views id ≡ some v → is_resting v.place
@@ -566,8 +647,10 @@ module _ {X O : Type 0} (origin : X → O) (history : X → List Entry) (lawful 
   pub merges : (id : ℕ) (v : View O) (other : ℕ) (w : View O) (blank : O) → is_resting v.place ≡ true
       → is_resting w.place ≡ true → Joins Rule id v other w (joined v w) (spent_view blank)
   merges id v other w blank rested rested-too s r at apart there =
-      let f = subst (AllByRecursion (Fits o r.log)) (rests_alone (own v) v.place rested) (r.each id v at).fits in let fit = f.0 in
-      let g = subst (AllByRecursion (Fits o r.log)) (rests_alone (own w) w.place rested-too) (r.each other w (apart_at s id other v w (joined v w) apart there)).fits in let fit' = g.0 in
+      let f = subst (AllByRecursion (Fits o r.log)) (rests_alone (own v) v.place rested) (r.each id v at).fits in
+      let fit = f.0 in
+      let g = subst (AllByRecursion (Fits o r.log)) (rests_alone (own w) w.place rested-too)
+      (r.each other w (apart_at s id other v w (joined v w) apart there)).fits in let fit' = g.0 in
       let merged : Fits o r.log (sight v.number v.origin (longer v.seen w.seen) v.mine) =
       longer_cases (λ (l : List Entry). Fits o r.log (sight v.number v.origin l v.mine)) v.seen w.seen r.log
       fit.begins fit'.begins
@@ -579,7 +662,8 @@ module _ {X O : Type 0} (origin : X → O) (history : X → List Entry) (lawful 
         enrolled = fit.enrolled;
       })
       (λ p. fit) in
-      let alone = rests_alone (own (joined v w)) v.place rested in let was-alone = rests_alone (own v) v.place rested in let stand = r.each id v at in
+      let alone = rests_alone (own (joined v w)) v.place rested in let was-alone = rests_alone (own v) v.place rested in
+      let stand = r.each id v at in
       spends record { words = s.words; homes = s.homes; views = set s.views id (joined v w) }
       (leaves s r id v (joined v w) s.words r.next at r.atomic_words (omega arith) r.small refl
       record {
@@ -587,17 +671,22 @@ module _ {X O : Type 0} (origin : X → O) (history : X → List Entry) (lawful 
         fits =
             subst (AllByRecursion (Fits o r.log)) (sym alone) (merged, tt);
       }
-      (λ t. let one = r.one_ticket t in omega arith) (λ n. let same = ap (bearers n) alone in let was = ap (bearers n) was-alone in omega arith))
+      (λ t. let one = r.one_ticket t in omega arith)
+      (λ n. let same = ap (bearers n) alone in let was = ap (bearers n) was-alone in omega arith))
       other w blank there rested-too
 
   pub pairs : (id : ℕ) (v : View O) (other : ℕ) (w : View O) (blank : O) → is_resting v.place ≡ true
       → is_resting w.place ≡ true → Joins Rule id v other w (paired v w) (spent_view blank)
   unfolding spends leaves steps
   pairs id v other w blank rested rested-too s r at apart there =
-      let there' = apart_at s id other v w (paired v w) apart there in let alone = rests_alone (own v) v.place rested in let alone-too = rests_alone (own w) w.place rested-too in
-      let f = subst (AllByRecursion (Fits o r.log)) alone (r.each id v at).fits in let fit = f.0 in let g = subst (AllByRecursion (Fits o r.log)) alone-too (r.each other w there').fits in let fit' = g.0 in
-      let views' : List (View O) = set s.views other (spent_view blank) in let s' : St = record { words = s.words; homes = s.homes; views = views' } in
-      let at' : get_elem? views' id ≡ some v = set_else s.views other id (spent_view blank) (λ e. apart (sym e)) ∙ at in let r' = spends s r other w blank there' rested-too in
+      let there' = apart_at s id other v w (paired v w) apart there in let alone = rests_alone (own v) v.place rested in
+      let alone-too = rests_alone (own w) w.place rested-too in
+      let f = subst (AllByRecursion (Fits o r.log)) alone (r.each id v at).fits in let fit = f.0 in
+      let g = subst (AllByRecursion (Fits o r.log)) alone-too (r.each other w there').fits in let fit' = g.0 in
+      let views' : List (View O) = set s.views other (spent_view blank) in
+      let s' : St = record { words = s.words; homes = s.homes; views = views' } in
+      let at' : get_elem? views' id ≡ some v = set_else s.views other id (spent_view blank) (λ e. apart (sym e)) ∙ at in
+      let r' = spends s r other w blank there' rested-too in
       subst (λ (vs : List (View O)). Rule record { words = s.words; homes = s.homes; views = vs })
       (set-swap s.views other id (spent_view blank) (paired v w) apart)
       (steps s' r' id v (paired v w) s.words s.homes r.next r.serving r.log at' r.atomic_words r.served r.small
@@ -619,7 +708,9 @@ module _ {X O : Type 0} (origin : X → O) (history : X → List Entry) (lawful 
         );
       }
       (λ j u ne e h. h) (λ t. let one = r'.one_ticket t in omega arith)
-      (λ n some-n. let one = r.one_number n some-n in let moved-by = sum_by-at (numbers n) s.views other w (spent_view blank) there' in let mine = ap (bearers n) alone in let theirs = ap (bearers n) alone-too in omega arith))
+      (λ n some-n. let one = r.one_number n some-n in
+      let moved-by = sum_by-at (numbers n) s.views other w (spent_view blank) there' in
+      let mine = ap (bearers n) alone in let theirs = ap (bearers n) alone-too in omega arith))
 
   pub compares : (slots id : ℕ) (m : M) → Allows Rule slots id m 0 (λ n. n) (met (step slots 0 0 0 none) m)
   compares slots id m s r deep at _ = (
@@ -629,34 +720,47 @@ module _ {X O : Type 0} (origin : X → O) (history : X → List Entry) (lawful 
     unmoved s r 0 id m.0 at,
     (
       refl,
-      λ k h e. let f = subst (λ (p : Place). AllByRecursion (Fits o r.log) (sights_at (own m.0) p)) e (r.each id m.0 at).fits in let fit = f.0 in let kept = f.1.0 in record {
-        in_line = in_line m.0.seen h r.log fit.begins kept.begins;
-        complete = λ p. entries_by-between m.0.number m.0.seen h r.log p kept.begins fit.all_seen ∙ sym fit.own;
-        apart = λ some-number same. let two = ap (λ (p : Place). bearers m.0.number (sights_at (own m.0) p)) e in let first = ap one_if (eq-eqb m.0.number m.0.number refl) in let second = ap one_if (eq-eqb k m.0.number (sym same)) in
-            let here = term_le (numbers m.0.number) s.views id m.0 at in let one = r.one_number m.0.number some-number in omega arith;
-      },
+      λ k h e. let f = subst (λ (p : Place). AllByRecursion (Fits o r.log) (sights_at (own m.0) p)) e
+          (r.each id m.0 at).fits in let fit = f.0 in let kept = f.1.0 in record {
+            in_line = in_line m.0.seen h r.log fit.begins kept.begins;
+            complete = λ p. entries_by-between m.0.number m.0.seen h r.log p kept.begins fit.all_seen ∙ sym fit.own;
+            apart = λ some-number same. let two = ap (λ (p : Place). bearers m.0.number (sights_at (own m.0) p)) e in
+                let first = ap one_if (eq-eqb m.0.number m.0.number refl) in
+                let second = ap one_if (eq-eqb k m.0.number (sym same)) in
+                let here = term_le (numbers m.0.number) s.views id m.0 at in
+                let one = r.one_number m.0.number some-number in omega arith;
+          },
     ),
   )
 
   pub parts : (id : ℕ) (v : View O) (k : ℕ) (h : List Entry) → v.place ≡ Paired k h
       → Splits Rule id v (moved v Idle) (second v)
   unfolding leaves steps
-  parts id v k h paired-at s r at = let f = subst (λ (p : Place). AllByRecursion (Fits o r.log) (sights_at (own v) p)) paired-at (r.each id v at).fits in let fit = f.0 in let kept = f.1.0 in
-      let v' = moved v Idle in let w : View O = view k v.origin h (entries_by k h) 0 Idle in let two : (n : ℕ) → numbers n v ≡ one_if (eqb v.number n) + (one_if (eqb k n) + 0) = λ n. ap (λ (p : Place). bearers n (sights_at (own v) p)) paired-at in
+  parts id v k h paired-at s r at = let f = subst
+      (λ (p : Place). AllByRecursion (Fits o r.log) (sights_at (own v) p)) paired-at (r.each id v at).fits in
+      let fit = f.0 in let kept = f.1.0 in
+      let v' = moved v Idle in let w : View O = view k v.origin h (entries_by k h) 0 Idle in
+      let two : (n : ℕ) → numbers n v ≡ one_if (eqb v.number n) + (one_if (eqb k n) + 0) = λ n. ap
+      (λ (p : Place). bearers n (sights_at (own v) p)) paired-at in
       let s' : St = record { words = s.words; homes = s.homes; views = set s.views id v' } in
       let r' : Rule s' = leaves s r id v v' s.words r.next at r.atomic_words (omega arith) r.small
       (sym (ap holds_lock paired-at)) record { placed = tt; fits = (fit, tt) }
       (λ t. let one = r.one_ticket t in omega arith) (λ n. let both = two n in omega arith) in
       subst (λ (x : View O). Rule record { words = s.words; homes = s.homes; views = set s.views id v' ++ x ∷ [] })
       (sym (ap (second_at v) paired-at))
-      (adds s' r' w record { placed = tt; fits = (kept, tt) } refl (λ t. refl) (λ n some-n. let one = r.one_number n some-n in let both = two n in let moved-by = sum_by-at (numbers n) s.views id v v' at in omega arith))
+      (adds s' r' w record { placed = tt; fits = (kept, tt) } refl (λ t. refl)
+      (λ n some-n. let one = r.one_number n some-n in let both = two n in
+      let moved-by = sum_by-at (numbers n) s.views id v v' at in omega arith))
 
   -- the value of a lock that serves the ticket which is never drawn
   pub ends : (v : View O) (parts : Parts X) → v.place ≡ Peeked last_ticket → HasEnded origin history lawful o v parts
       → (x : X) × (parts.value ≡ Some x) × Suits origin history lawful v x
-  ends v parts peeked-at end = let s = end.state in let r = end.orderly in let id = end.known.0 in let at = end.known.1 in let low : last_ticket ≤ r.serving = subst (IsPlaced r.next r.serving r.log v.seen) peeked-at (r.each id v at).placed in
+  ends v parts peeked-at end = let s = end.state in let r = end.orderly in let id = end.known.0 in
+      let at = end.known.1 in let low : last_ticket ≤ r.serving = subst
+      (IsPlaced r.next r.serving r.log v.seen) peeked-at (r.each id v at).placed in
       let below = r.served in let small = r.small in let h = home_at_rest s r (omega arith) in
-      let same : parts.value ≡ Some h.value = ⊎_elim (λ (e : s.homes ≡ some parts.value ∷ []). let f = h.stored in cc) (λ (out : IsOut s). let one = out.held in let none-held = h.free in absurd (omega arith)) end.slot in
+      let same : parts.value ≡ Some h.value = ⊎_elim (λ (e : s.homes ≡ some parts.value ∷ []). let f = h.stored in cc)
+      (λ (out : IsOut s). let one = out.held in let none-held = h.free in absurd (omega arith)) end.slot in
       (h.value, same, suits s r h id v at (ap (sights_at (own v)) peeked-at))
 
   fits_at : (log : List Entry) (xs : List (Sight O)) (k : ℕ) (x : Sight O) → AllByRecursion (Fits o log) xs

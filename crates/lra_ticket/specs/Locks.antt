@@ -48,7 +48,8 @@ abbrev pub held_view : {X O : Type 0} {g : Ghosts X O} → Held X O g → View O
 held_view held = held.seat.me.0
 
 -- a value that a view may be handed
-pub record Suits {X O : Type 0} (origin : X → O) (history : X → List Entry) (lawful : X → Type 0) (v : View O) (x : X) : Type 0 where
+pub record Suits {X O : Type 0} (origin : X → O) (history : X → List Entry) (lawful : X → Type 0) (v : View O)
+    (x : X) : Type 0 where
   pub lawful_now : lawful x
   pub same_origin : origin x ≡ v.origin
   -- all that was seen before stands at the front
@@ -77,7 +78,8 @@ HasFailed v Worn w = w ≡ moved (tried v) (Peeked last_ticket)
 
 -- what a lock was when it ended: a state that meets the rule, which has this view among its own, and where no one holds
 -- the lock this value
-pub record HasEnded {X O : Type 0} (origin : X → O) (history : X → List Entry) (lawful : X → Type 0) (o : O) (v : View O) (parts : Parts X) : Type 0 where
+pub record HasEnded {X O : Type 0} (origin : X → O) (history : X → List Entry) (lawful : X → Type 0) (o : O)
+    (v : View O) (parts : Parts X) : Type 0 where
   pub state : State (Option X) (View O)
   pub orderly : IsOrderly origin history lawful o state
   pub in_line : IsInLine state

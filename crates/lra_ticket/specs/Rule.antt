@@ -46,7 +46,8 @@ pub record IsOut {X O : Type 0} (s : State (Option X) (View O)) : Type 0 where
   pub held : sum_by (λ (v : View O). holds_lock v.place) s.views ≡ 1
 
 -- the value is in the slot: it is lawful, and no one holds the lock
-pub record IsHome {X O : Type 0} (origin : X → O) (history : X → List Entry) (lawful : X → Type 0) (o : O) (log : List Entry) (s : State (Option X) (View O)) : Type 0 where
+pub record IsHome {X O : Type 0} (origin : X → O) (history : X → List Entry) (lawful : X → Type 0) (o : O)
+    (log : List Entry) (s : State (Option X) (View O)) : Type 0 where
   pub value : X
   pub stored : s.homes ≡ some (Some value) ∷ []
   pub lawful_now : lawful value
@@ -55,7 +56,8 @@ pub record IsHome {X O : Type 0} (origin : X → O) (history : X → List Entry)
   pub free : sum_by (λ (v : View O). holds_lock v.place) s.views ≡ 0
 
 -- the rule, where o is the origin of the value that the lock began with
-pub record IsOrderly {X O : Type 0} (origin : X → O) (history : X → List Entry) (lawful : X → Type 0) (o : O) (s : State (Option X) (View O)) : Type 0 where
+pub record IsOrderly {X O : Type 0} (origin : X → O) (history : X → List Entry) (lawful : X → Type 0) (o : O)
+    (s : State (Option X) (View O)) : Type 0 where
   -- the next ticket, the one that is served, and the history of the value at home, or of the one that the holder took
   pub next : ℕ
   pub serving : ℕ

@@ -1,6 +1,15 @@
 //! The end of a lock.
 ghost use Rattle.std.specs.Prelude.{◌≡◌, ◌-◌, ◌^◌, ◌∷◌, [], Option, IfOk, IfErr};
-ghost use Rattle.lra_ticket.specs.Locks.{lock_id, first_value, pass_id, pass_view, last_ticket, HasMissed, HasEnded, Suits};
+ghost use Rattle.lra_ticket.specs.Locks.{
+  lock_id,
+  first_value,
+  pass_id,
+  pass_view,
+  last_ticket,
+  HasMissed,
+  HasEnded,
+  Suits,
+};
 ghost use Rattle.lra_ticket.specs.declared.view.Place.TheVariants.{Peeked};
 
 use crate::kept::Kept;

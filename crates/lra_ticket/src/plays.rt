@@ -1,6 +1,18 @@
 //! The names of the steps. What each tells is in `specs/inner/Steps.antt`, and how a view changes at a move there and
 //! in `specs/Views.antt`.
-ghost use Rattle.lra_ticket.specs.inner.Steps.{looked, drew, watched, gave, peeked, grabbed, met, paired, second, joined, spent_view};
+ghost use Rattle.lra_ticket.specs.inner.Steps.{
+  looked,
+  drew,
+  watched,
+  gave,
+  peeked,
+  grabbed,
+  met,
+  paired,
+  second,
+  joined,
+  spent_view,
+};
 ghost use Rattle.lra_ticket.specs.Views.{newcomer, moved};
 ghost use Rattle.lra_ticket.specs.declared.view.Place.TheVariants.{Idle};
 

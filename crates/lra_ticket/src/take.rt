@@ -1,6 +1,18 @@
 //! Taking the lock, with and without waiting.
 ghost use Rattle.std.specs.Prelude.{◌≡◌, ◌≢◌, ℕ, ◌+◌, ◌-◌, ◌^◌, ◌<◌, IfOk, IfErr};
-ghost use Rattle.lra_ticket.specs.Locks.{lock_id, pass_id, held_id, pass_view, held_view, last_ticket, HasTaken, HasMissed, HasFailed, tried, Suits};
+ghost use Rattle.lra_ticket.specs.Locks.{
+  lock_id,
+  pass_id,
+  held_id,
+  pass_view,
+  held_view,
+  last_ticket,
+  HasTaken,
+  HasMissed,
+  HasFailed,
+  tried,
+  Suits,
+};
 ghost use Rattle.lra_ticket.specs.inner.Queue.{queued_id, queued_view};
 ghost use Rattle.lra_ticket.specs.Views.{moved, taking};
 ghost use Rattle.lra_ticket.specs.inner.Steps.{peeking};

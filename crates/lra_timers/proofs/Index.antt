@@ -177,7 +177,9 @@ module _ (deadlines kept : List Deadline) (final : Deadline) (split : deadlines 
         (λ place at. sym (node-kept place (within_kept q place other at))))
 
     -- another number is removed, and the last one takes its place
-    module _ (gone new : Places) (number hole : ℕ) (at : get nat_eq places number ≡ Some hole) (other : final.number ≢ number) (removed : Changes places gone number None) (moved : Changes gone new final.number (Some hole)) where
+    module _ (gone new : Places) (number hole : ℕ) (at : get nat_eq places number ≡ Some hole)
+        (other : final.number ≢ number) (removed : Changes places gone number None)
+        (moved : Changes gone new final.number (Some hole)) where
       hole_inside : hole < length kept
       hole_inside = within_kept number hole other at
 
@@ -245,7 +247,8 @@ module _ (deadlines kept : List Deadline) (final : Deadline) (split : deadlines 
             | inl same ↦
                 moment_at new (set kept hole final) q hole final (ap (get nat_eq new) (sym same) ∙ moved.here)
                 (get_or-set_same kept hole final last hole_inside)
-                ∙ sym (moment_at places deadlines q (length kept) final (ap (get nat_eq places) (sym same) ∙ final_place)
+                ∙ sym (moment_at places deadlines q (length kept) final
+                (ap (get nat_eq places) (sym same) ∙ final_place)
                 node-final)
             | inr not_final ↦
                 same_moment places new deadlines (set kept hole final) q (stays q not_final differs)

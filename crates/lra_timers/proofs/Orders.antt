@@ -13,7 +13,8 @@ deadline_from_fields a b moments numbers i = record { moment = moments i; number
 
 -- what `==` tells
 pub deadline_from_eq : (a b : Deadline) → true ≡ (eqb a.moment b.moment && eqb a.number b.number) → a ≡ b
-deadline_from_eq a b e = let both = both_true _ _ e in deadline_from_fields a b (eqb-true _ _ both.0) (eqb-true _ _ both.1)
+deadline_from_eq a b e = let both = both_true _ _ e in
+    deadline_from_fields a b (eqb-true _ _ both.0) (eqb-true _ _ both.1)
 
 pub IsNotAfter-refl : (a : Deadline) → IsNotAfter a a
 IsNotAfter-refl a = record { moment = omega arith; number = λ _. omega arith }

@@ -16,7 +16,8 @@ parent_not_after nodes width at won below inside =
     let match_won : IsWonAt nodes (at / 2) = won (at / 2) (omega arith) (omega arith) in
     elim (cases_eq at (2 * (at / 2))) [
       | inl even ↦ subst (λ k. IsNotAfter (node nodes (at / 2)) (node nodes k)) (sym even) match_won.first
-      | inr odd ↦ let is : 2 * (at / 2) + 1 ≡ at = omega arith in subst (λ k. IsNotAfter (node nodes (at / 2)) (node nodes k)) is match_won.second
+      | inr odd ↦ let is : 2 * (at / 2) + 1 ≡ at = omega arith in
+          subst (λ k. IsNotAfter (node nodes (at / 2)) (node nodes k)) is match_won.second
     ]
 
 root_not_after : (nodes : List Deadline) (width : ℕ) → IsWon nodes width → (fuel at : ℕ) → at ≤ fuel → 1 ≤ at → at
@@ -40,8 +41,10 @@ stands_at_leaf nodes width won zero at enough positive inside = absurd (omega ar
 stands_at_leaf nodes width won (suc fuel) at enough positive inside = elim (leb_tells width at) [
   | inl leaf ↦ let here : at ≡ width + (at - width) = omega arith in (at - width, omega arith, ap (node nodes) here)
   | inr inner ↦ elim (won at positive inner.1).one_of [
-    | inl first ↦ let deep = stands_at_leaf nodes width won fuel (2 * at) (omega arith) (omega arith) (omega arith) in (deep.0, deep.1, first ∙ deep.2)
-    | inr second ↦ let deep = stands_at_leaf nodes width won fuel (2 * at + 1) (omega arith) (omega arith) (omega arith) in (deep.0, deep.1, second ∙ deep.2)
+    | inl first ↦ let deep = stands_at_leaf nodes width won fuel (2 * at) (omega arith) (omega arith) (omega arith) in
+        (deep.0, deep.1, first ∙ deep.2)
+    | inr second ↦ let deep = stands_at_leaf nodes width won fuel (2 * at + 1) (omega arith) (omega arith)
+        (omega arith) in (deep.0, deep.1, second ∙ deep.2)
   ]
 ]
 

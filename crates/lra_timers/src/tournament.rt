@@ -1,4 +1,24 @@
-ghost use Rattle.std.specs.Prelude.{◌≡◌, ◌↔◌, ◌+◌, ◌*◌, ◌^◌, ◌≤◌, ◌<◌, [], ◌∷◌, ◌++◌, length, take, drop, slice_set, IsNone, IsOk, IfSome, OnOk, OnErr};
+ghost use Rattle.std.specs.Prelude.{
+  ◌≡◌,
+  ◌↔◌,
+  ◌+◌,
+  ◌*◌,
+  ◌^◌,
+  ◌≤◌,
+  ◌<◌,
+  [],
+  ◌∷◌,
+  ◌++◌,
+  length,
+  take,
+  drop,
+  slice_set,
+  IsNone,
+  IsOk,
+  IfSome,
+  OnOk,
+  OnErr,
+};
 ghost use Rattle.lra_timers.specs.Order.{IsFirstOf, IsNotAfter, node, last};
 ghost use Rattle.lra_timers.specs.inner.Tree.{IsWinner, IsWon, IsTree};
 

@@ -258,7 +258,9 @@ stated_lasts P bytes (Length n) fault e h = go (nat_le n 65536) e
   where
     go : (b : Bool) → cond b (Ok (Sized n)) (Err TooLarge) ≡ Err fault → Lasts P bytes fault
     go true f = absurd cc
-    go false f = let same : TooLarge ≡ fault = cc in subst (λ (x : WireFault). Lasts P bytes x) same (λ more. subst (λ (x : WireFault). P (bytes ++ more) x) (sym same) (h more))
+    go false f = let same : TooLarge ≡ fault = cc in
+        subst (λ (x : WireFault). Lasts P bytes x) same
+        (λ more. subst (λ (x : WireFault). P (bytes ++ more) x) (sym same) (h more))
 stated_lasts P bytes Malformed fault e h =
     let same : BadLength ≡ fault = cc in subst (λ (x : WireFault). Lasts P bytes x) same
     (λ more. subst (λ (x : WireFault). P (bytes ++ more) x) (sym same) (h more))
@@ -271,7 +273,9 @@ coded_lasts P bytes (coding ∷ []) stated fault e h = go (is_alike coding (code
   where
     go : (b : Bool) → cond b (Ok Chunks) (Err Chunked) ≡ Err fault → Lasts P bytes fault
     go true f = absurd cc
-    go false f = let same : Chunked ≡ fault = cc in subst (λ (x : WireFault). Lasts P bytes x) same (λ more. subst (λ (x : WireFault). P (bytes ++ more) x) (sym same) (h more))
+    go false f = let same : Chunked ≡ fault = cc in
+        subst (λ (x : WireFault). Lasts P bytes x) same
+        (λ more. subst (λ (x : WireFault). P (bytes ++ more) x) (sym same) (h more))
 coded_lasts P bytes (coding ∷ other ∷ codings) stated fault e h =
     let same : Chunked ≡ fault = cc in subst (λ (x : WireFault). Lasts P bytes x) same
     (λ more. subst (λ (x : WireFault). P (bytes ++ more) x) (sym same) (h more))
@@ -362,7 +366,8 @@ response_open_now bytes found framing wanted final framed o = record {
 -- the head and the framing of what is open
 ends_as : (bytes : List ℕ) (found : Head) (framing : Framing) → EndsOpen (Some found) bytes → found.framing ≡ Ok framing
     → EndsBody framing found.len bytes
-ends_as bytes found framing (other, is, ends) framed = let same : other ≡ framing = cc in subst (λ (f : Framing). EndsBody f found.len bytes) same ends
+ends_as bytes found framing (other, is, ends) framed = let same : other ≡ framing = cc in
+    subst (λ (f : Framing). EndsBody f found.len bytes) same ends
 
 final_now : (bytes : List ℕ) (found : Head) → (final : IsFinalOf bytes found)
     → HasFinal bytes final.head (drop found.len bytes)

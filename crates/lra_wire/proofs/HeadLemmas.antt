@@ -50,7 +50,8 @@ request_ends head =
 pub no_request : (bytes : List ℕ) (n : ℕ) → n ≤ length bytes → IsOpenRequest (take n bytes)
     → list_any (λ b. b == 10) (slice_range bytes n (length bytes)) ≡ false → IsOpenRequest bytes
 no_request bytes n within so_far feed = (
-  λ head rest reads. let there = ends_before bytes (print_request head) rest n (request_ends head) within reads.1 (no_feed bytes n feed) in so_far.0 head there.0 (reads.0, there.1),
+  λ head rest reads. let there = ends_before bytes (print_request head) rest n (request_ends head) within reads.1
+      (no_feed bytes n feed) in so_far.0 head there.0 (reads.0, there.1),
   up_to_more MayBecomeRequest bytes n so_far.1 (no_feed bytes n feed),
 )
 
@@ -73,6 +74,7 @@ response_ends head =
 pub no_response : (bytes : List ℕ) (n : ℕ) → n ≤ length bytes → IsOpenResponse (take n bytes)
     → list_any (λ b. b == 10) (slice_range bytes n (length bytes)) ≡ false → IsOpenResponse bytes
 no_response bytes n within so_far feed = (
-  λ head rest reads. let there = ends_before bytes (print_response head) rest n (response_ends head) within reads.1 (no_feed bytes n feed) in so_far.0 head there.0 (reads.0, there.1),
+  λ head rest reads. let there = ends_before bytes (print_response head) rest n (response_ends head) within reads.1
+      (no_feed bytes n feed) in so_far.0 head there.0 (reads.0, there.1),
   up_to_more MayBecomeResponse bytes n so_far.1 (no_feed bytes n feed),
 )

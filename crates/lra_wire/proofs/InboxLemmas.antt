@@ -29,9 +29,10 @@ Grows_trans {R} {remaining} {a} {b} {c} x y = record {
 }
 
 -- what a loop of reads keeps: what came is of the stream, and more was asked for only where it was wanted
-pub record Waits {R : Type 0} (remaining : R → Option (List ℕ)) (Awaits : List ℕ → Type 0) (old new : Inbox R) : Type 0 where
-  pub grows : Grows remaining old new
-  pub asks : AsksAt Awaits old new
+pub record Waits {R : Type 0} (remaining : R → Option (List ℕ)) (Awaits : List ℕ → Type 0) (old new : Inbox R) : Type 0
+  where
+    pub grows : Grows remaining old new
+    pub asks : AsksAt Awaits old new
 
 -- what was read first, and then what was read behind it
 pub asks_on : {R : Type 0} (P Q S : List ℕ → Type 0) (a b c : Inbox R) → AsksAt P a b → AsksAt Q b c

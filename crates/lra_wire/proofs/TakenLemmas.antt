@@ -28,7 +28,8 @@ both_known : (old : Option (List ℕ)) (kept : List ℕ) (left : Option (List �
     → IfBothKnown old (prepend_known (drop n kept) left) P
 both_known None kept left n P keeps h = tt
 both_known (Some xs) kept None n P keeps h = absurd keeps
-both_known (Some xs) kept (Some ys) n P keeps h = let Q : List ℕ → Type 0 = λ zs. P zs (drop n kept ++ ys) in subst Q keeps (h ys)
+both_known (Some xs) kept (Some ys) n P keeps h = let Q : List ℕ → Type 0 = λ zs. P zs (drop n kept ++ ys) in
+    subst Q keeps (h ys)
 
 -- the same at the end of the stream
 both_known_end : (old : Option (List ℕ)) (kept : List ℕ) (left : Option (List ℕ)) (n : ℕ) (P : List ℕ → List ℕ → Type 0)

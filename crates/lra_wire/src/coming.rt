@@ -5,7 +5,16 @@ ghost use Rattle.lra_wire.specs.Coming.{IsComing};
 ghost use Rattle.lra_wire.specs.Response.{AwaitsResponse};
 ghost use Rattle.lra_wire.specs.Seen.{SeesResponse};
 ghost use Rattle.lra_wire.specs.inner.Wanted.{IsMissing, count_wanted, IsOpenAt};
-ghost use Rattle.lra_wire.specs.inner.Parts.{most_bytes, Passes, FindsHead, FindsFinal, FindsBodyFront, EndsOpen, EndsAsOpen, IsSmall};
+ghost use Rattle.lra_wire.specs.inner.Parts.{
+  most_bytes,
+  Passes,
+  FindsHead,
+  FindsFinal,
+  FindsBodyFront,
+  EndsOpen,
+  EndsAsOpen,
+  IsSmall,
+};
 ghost use Rattle.lra_wire.specs.inner.Chunked.{HasRead};
 ghost use Rattle.lra_wire.specs.inner.Reading.{IsLast};
 

@@ -5,7 +5,15 @@ ghost use Rattle.std.specs.List.{list_all};
 ghost use Rattle.std.specs.Str.Parse.{digits_value};
 ghost use Rattle.httparse.specs.Grammar.{is_ows, skip_ows, trim_ows};
 ghost use Rattle.httparse.specs.Spans.{IsHeaderWithin, header_bytes};
-ghost use Rattle.lra_wire.specs.Fields.{is_alike, values_of, has_field, spelled_length, stated_of, has_element, lists_close};
+ghost use Rattle.lra_wire.specs.Fields.{
+  is_alike,
+  values_of,
+  has_field,
+  spelled_length,
+  stated_of,
+  has_element,
+  lists_close,
+};
 ghost use Rattle.lra_wire.specs.inner.Fields.{Shows};
 
 use httparse::spans::HeaderSpan;

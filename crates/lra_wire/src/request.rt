@@ -1,5 +1,26 @@
 //! Requests, read.
-ghost use Rattle.std.specs.Prelude.{◌≡◌, ◌≤◌, ℕ, List, Option, length, map, take, All, IfOk, IfErr, IfSome, OnOk, OnErr, IsTrue, IsFalse, Ok, Err, string_bytes, IsUtf8};
+ghost use Rattle.std.specs.Prelude.{
+  ◌≡◌,
+  ◌≤◌,
+  ℕ,
+  List,
+  Option,
+  length,
+  map,
+  take,
+  All,
+  IfOk,
+  IfErr,
+  IfSome,
+  OnOk,
+  OnErr,
+  IsTrue,
+  IsFalse,
+  Ok,
+  Err,
+  string_bytes,
+  IsUtf8,
+};
 ghost use Rattle.httparse.specs.Spans.{IsHeaderWithin, header_bytes};
 ghost use Rattle.lra_wire.specs.declared.fault.WireFault.{WireFault};
 ghost use Rattle.lra_wire.specs.Fields.{body_length_of};

@@ -65,7 +65,8 @@ keeps_given v w moment o reply h = record {
 
 module _ {K : Type 0} (gives : Sight → ℕ → Order → Result Told CounterFault → Sight → Type 0)
     (tells : K → ℕ → K → Type 0)
-    (law : (v w : Sight) (moment : ℕ) (o : Order) (reply : Result Told CounterFault) → gives v moment o reply w → KeepsHistory v moment o reply w) where
+    (law : (v w : Sight) (moment : ℕ) (o : Order) (reply : Result Told CounterFault) → gives v moment o reply w
+    → KeepsHistory v moment o reply w) where
   -- ---- one request
 
   keeps_responding : (v w : Sight) (moment : ℕ) (r : _) (a : Answer) → Responds gives v moment r w a → Keeps v w
@@ -109,7 +110,8 @@ module _ {K : Type 0} (gives : Sight → ℕ → Order → Result Told CounterFa
   keeps_connections (suc n) v w k l (u, m, before, last) = keeps_on v u w (keeps_connections n v u k m before)
       (keeps_connection u w m l last)
 
-module _ {K : Type 0} (gives : Sight → ℕ → Order → Result Told CounterFault → Sight → Type 0) (tells : K → ℕ → K → Type 0) where
+module _ {K : Type 0} (gives : Sight → ℕ → Order → Result Told CounterFault → Sight → Type 0)
+    (tells : K → ℕ → K → Type 0) where
   pub none_answered : (v : Sight) (k : K) → ConnectionsIn gives tells 0 v k v k
   unfolding ConnectionsIn
   none_answered v k = (refl, refl)

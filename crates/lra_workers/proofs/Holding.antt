@@ -50,7 +50,8 @@ of_ask_on J K e p h = subst (λ (M : History). IsOfAsk M e) p.1 (asked_on p.0 J 
 module _ {O : Type 0} (covers : O → History → ℕ → Bool) where
   pub asks_stay : (J K : History) (places : Places) → IsPrefix J K → AreHanded covers J places
       → AreHanded covers K places
-  asks_stay J K places p h place e here = let x = h place e here in record { of_ask = of_ask_on J K e.0 p x.of_ask; told = x.told }
+  asks_stay J K places p h place e here = let x = h place e here in
+      record { of_ask = of_ask_on J K e.0 p x.of_ask; told = x.told }
 
   -- ---- errands come and go
 
@@ -89,84 +90,86 @@ module _ {O : Type 0} (covers : O → History → ℕ → Bool) where
 
 -- ---- calls show all that was seen
 
-module _ {O K : Type 0} (setting : O → Setting) (gives : ℕ → AskKind → Outcome → Type 0) (tells : K → ℕ → K → Type 0) where
-  done_seen : (s t : Post O K) → Does setting gives tells s t → IsPrefix s.view.seen t.view.seen
-  done_seen s t d =
-      let J = d.given.history in
-      let more = growth (terms_of (setting s.view.origin)) J d.call in
-      subst (λ (w : View O). IsPrefix s.view.seen w.seen) (sym d.given.after)
-      (prefix_trans s.view.seen J (J ++ more) d.given.met.begins (more, refl))
+module _ {O K : Type 0} (setting : O → Setting) (gives : ℕ → AskKind → Outcome → Type 0) (tells : K → ℕ → K → Type 0)
+  where
+    done_seen : (s t : Post O K) → Does setting gives tells s t → IsPrefix s.view.seen t.view.seen
+    done_seen s t d =
+        let J = d.given.history in
+        let more = growth (terms_of (setting s.view.origin)) J d.call in
+        subst (λ (w : View O). IsPrefix s.view.seen w.seen) (sym d.given.after)
+        (prefix_trans s.view.seen J (J ++ more) d.given.met.begins (more, refl))
 
-  refused_seen : (v w : View O) (c : Call) → IsNotGiven (setting v.origin) v c (office.Refused NotAsked) w
-      → IsPrefix v.seen w.seen
-  refused_seen v w c (J, met, back, after) = subst (λ (x : View O). IsPrefix v.seen x.seen) (sym after) met.begins
+    refused_seen : (v w : View O) (c : Call) → IsNotGiven (setting v.origin) v c (office.Refused NotAsked) w
+        → IsPrefix v.seen w.seen
+    refused_seen v w c (J, met, back, after) = subst (λ (x : View O). IsPrefix v.seen x.seen) (sym after) met.begins
 
-  worked_in : (n : ℕ) (s t : Post O K) → WorksIn setting gives tells n s t → IsPrefix s.view.seen t.view.seen
-  unfolding WorksIn
-  worked_in zero s t h = subst (λ (u : Post O K). IsPrefix s.view.seen u.view.seen) h (prefix_refl s.view.seen)
-  worked_in (suc n) s t (u, before, inl d) = prefix_trans s.view.seen u.view.seen t.view.seen (worked_in n s u before)
-      (done_seen u t d)
-  worked_in (suc n) s t (u, before, inr f) = prefix_trans s.view.seen u.view.seen t.view.seen (worked_in n s u before)
-      (refused_seen u.view t.view f.call f.given)
+    worked_in : (n : ℕ) (s t : Post O K) → WorksIn setting gives tells n s t → IsPrefix s.view.seen t.view.seen
+    unfolding WorksIn
+    worked_in zero s t h = subst (λ (u : Post O K). IsPrefix s.view.seen u.view.seen) h (prefix_refl s.view.seen)
+    worked_in (suc n) s t (u, before, inl d) = prefix_trans s.view.seen u.view.seen t.view.seen (worked_in n s u before)
+        (done_seen u t d)
+    worked_in (suc n) s t (u, before, inr f) = prefix_trans s.view.seen u.view.seen t.view.seen (worked_in n s u before)
+        (refused_seen u.view t.view f.call f.given)
 
-  -- whoever works has seen all that it had
-  pub worked : (s t : Post O K) → ((r : Post O K) → Works setting gives tells r s → Works setting gives tells r t)
-      → IsPrefix s.view.seen t.view.seen
-  worked s t h = let w = h s (works_none setting gives tells s) in worked_in w.0 s t w.1
+    -- whoever works has seen all that it had
+    pub worked : (s t : Post O K) → ((r : Post O K) → Works setting gives tells r s → Works setting gives tells r t)
+        → IsPrefix s.view.seen t.view.seen
+    worked s t h = let w = h s (works_none setting gives tells s) in worked_in w.0 s t w.1
 
-  -- nor does a refusal take anything away of it
-  not_given : (g : Setting) (v w : View O) (c : Call) (r : OfficeRefusal) → IsNotGiven g v c r w
-      → IsPrefix v.seen w.seen
-  not_given g v w c office.Worn h = subst (λ (x : View O). IsPrefix v.seen x.seen) (sym h) (prefix_refl v.seen)
-  not_given g v w c (office.Refused r) (J, met, back, after) = subst (λ (x : View O). IsPrefix v.seen x.seen)
-      (sym after) met.begins
+    -- nor does a refusal take anything away of it
+    not_given : (g : Setting) (v w : View O) (c : Call) (r : OfficeRefusal) → IsNotGiven g v c r w
+        → IsPrefix v.seen w.seen
+    not_given g v w c office.Worn h = subst (λ (x : View O). IsPrefix v.seen x.seen) (sym h) (prefix_refl v.seen)
+    not_given g v w c (office.Refused r) (J, met, back, after) = subst (λ (x : View O). IsPrefix v.seen x.seen)
+        (sym after) met.begins
 
-  pub works_seen : (s t : Post O K) → Works setting gives tells s t → IsPrefix s.view.seen t.view.seen
-  works_seen s t w = worked_in w.0 s t w.1
+    pub works_seen : (s t : Post O K) → Works setting gives tells s t → IsPrefix s.view.seen t.view.seen
+    works_seen s t w = worked_in w.0 s t w.1
 
-  pub fails_seen : (s t : Post O K) (r : OfficeRefusal) → Fails setting gives tells s r t
-      → IsPrefix s.view.seen t.view.seen
-  fails_seen s t r f = not_given (setting s.view.origin) s.view t.view f.call r f.given
+    pub fails_seen : (s t : Post O K) (r : OfficeRefusal) → Fails setting gives tells s r t
+        → IsPrefix s.view.seen t.view.seen
+    fails_seen s t r f = not_given (setting s.view.origin) s.view t.view f.call r f.given
 
-  pub foreseen : (g : Setting) (v w : View O) (r : Result (Option ℕ) OfficeRefusal) → IsLookedAhead g v r w
-      → IsPrefix v.seen w.seen
-  foreseen g v w (Ok next) h = foretold_seen g v w next h
-  foreseen g v w (Err office.Worn) h = subst (λ (x : View O). IsPrefix v.seen x.seen) (sym h) (prefix_refl v.seen)
-  foreseen g v w (Err (office.Refused r)) h = absurd h
+    pub foreseen : (g : Setting) (v w : View O) (r : Result (Option ℕ) OfficeRefusal) → IsLookedAhead g v r w
+        → IsPrefix v.seen w.seen
+    foreseen g v w (Ok next) h = foretold_seen g v w next h
+    foreseen g v w (Err office.Worn) h = subst (λ (x : View O). IsPrefix v.seen x.seen) (sym h) (prefix_refl v.seen)
+    foreseen g v w (Err (office.Refused r)) h = absurd h
 
-  steps_seen : (s t : Post O K) → GoesOn setting gives tells s t → IsPrefix s.view.seen t.view.seen
-  steps_seen s t (inl look) = foreseen (setting s.view.origin) s.view t.view (Ok look.0) look.1.told
-  steps_seen s t (inr f) = fails_seen s t _ f
+    steps_seen : (s t : Post O K) → GoesOn setting gives tells s t → IsPrefix s.view.seen t.view.seen
+    steps_seen s t (inl look) = foreseen (setting s.view.origin) s.view t.view (Ok look.0) look.1.told
+    steps_seen s t (inr f) = fails_seen s t _ f
 
-  carried_in : (n : ℕ) (s t : Post O K) → CarriesIn setting gives tells n s t → IsPrefix s.view.seen t.view.seen
-  unfolding CarriesIn
-  carried_in zero s t h = works_seen s t h
-  carried_in (suc n) s t (u, v, before, step, h) =
-      prefix_trans s.view.seen v.view.seen t.view.seen (prefix_trans s.view.seen u.view.seen v.view.seen
-      (carried_in n s u before) (steps_seen u v step)) (works_seen v t h)
+    carried_in : (n : ℕ) (s t : Post O K) → CarriesIn setting gives tells n s t → IsPrefix s.view.seen t.view.seen
+    unfolding CarriesIn
+    carried_in zero s t h = works_seen s t h
+    carried_in (suc n) s t (u, v, before, step, h) =
+        prefix_trans s.view.seen v.view.seen t.view.seen (prefix_trans s.view.seen u.view.seen v.view.seen
+        (carried_in n s u before) (steps_seen u v step)) (works_seen v t h)
 
-  pub carries_seen : (s t : Post O K) → Carries setting gives tells s t → IsPrefix s.view.seen t.view.seen
-  carries_seen s t h = carried_in h.0 s t h.1
+    pub carries_seen : (s t : Post O K) → Carries setting gives tells s t → IsPrefix s.view.seen t.view.seen
+    carries_seen s t h = carried_in h.0 s t h.1
 
-  ended_seen : (s t : Post O K) (end : WorkerEnd) → EndsCarrying setting gives tells s end t
-      → IsPrefix s.view.seen t.view.seen
-  ended_seen s t Ended h = carries_seen s t h
-  ended_seen s t Held h = carries_seen s t h
-  ended_seen s t (Refused r) (u, before, inl f, ends) = prefix_trans s.view.seen u.view.seen t.view.seen
-      (carries_seen s u before) (fails_seen u t r f)
-  ended_seen s t (Refused r) (u, before, inr look, ends) = prefix_trans s.view.seen u.view.seen t.view.seen
-      (carries_seen s u before) (foreseen (setting u.view.origin) u.view t.view (Err r) look.told)
+    ended_seen : (s t : Post O K) (end : WorkerEnd) → EndsCarrying setting gives tells s end t
+        → IsPrefix s.view.seen t.view.seen
+    ended_seen s t Ended h = carries_seen s t h
+    ended_seen s t Held h = carries_seen s t h
+    ended_seen s t (Refused r) (u, before, inl f, ends) = prefix_trans s.view.seen u.view.seen t.view.seen
+        (carries_seen s u before) (fails_seen u t r f)
+    ended_seen s t (Refused r) (u, before, inr look, ends) = prefix_trans s.view.seen u.view.seen t.view.seen
+        (carries_seen s u before) (foreseen (setting u.view.origin) u.view t.view (Err r) look.told)
 
-  -- whoever carries has seen all that it had, however that ended
-  pub carried : {A : Type 0} (s t : Post O K) (r : Result A WorkerEnd)
-      → ((x : Post O K) → Carries setting gives tells x s → MatchResult r (λ _. Carries setting gives tells x t)
-      (λ end. EndsCarrying setting gives tells x end t)) → IsPrefix s.view.seen t.view.seen
-  carried s t (Ok y) h = carries_seen s t (h s (carries_none setting gives tells s))
-  carried s t (Err end) h = ended_seen s t end (h s (carries_none setting gives tells s))
+    -- whoever carries has seen all that it had, however that ended
+    pub carried : {A : Type 0} (s t : Post O K) (r : Result A WorkerEnd)
+        → ((x : Post O K) → Carries setting gives tells x s → MatchResult r (λ _. Carries setting gives tells x t)
+        (λ end. EndsCarrying setting gives tells x end t)) → IsPrefix s.view.seen t.view.seen
+    carried s t (Ok y) h = carries_seen s t (h s (carries_none setting gives tells s))
+    carried s t (Err end) h = ended_seen s t end (h s (carries_none setting gives tells s))
 
-  -- the same of a worker's calls
-  pub worked_up_to : {A : Type 0} (s t : Post O K) (r : Result A OfficeRefusal)
-      → ((x : Post O K) → Works setting gives tells x s → MatchResult r (λ _. Works setting gives tells x t)
-      (λ e. WorksUpTo setting gives tells x e t)) → IsPrefix s.view.seen t.view.seen
-  worked_up_to s t (Ok y) h = works_seen s t (h s (works_none setting gives tells s))
-  worked_up_to s t (Err r) h = let (u, before, f, ends) = h s (works_none setting gives tells s) in prefix_trans s.view.seen u.view.seen t.view.seen (works_seen s u before) (fails_seen u t r f)
+    -- the same of a worker's calls
+    pub worked_up_to : {A : Type 0} (s t : Post O K) (r : Result A OfficeRefusal)
+        → ((x : Post O K) → Works setting gives tells x s → MatchResult r (λ _. Works setting gives tells x t)
+        (λ e. WorksUpTo setting gives tells x e t)) → IsPrefix s.view.seen t.view.seen
+    worked_up_to s t (Ok y) h = works_seen s t (h s (works_none setting gives tells s))
+    worked_up_to s t (Err r) h = let (u, before, f, ends) = h s (works_none setting gives tells s) in
+        prefix_trans s.view.seen u.view.seen t.view.seen (works_seen s u before) (fails_seen u t r f)

@@ -80,9 +80,12 @@ settling_over h over zero by m J = refl
 settling_over h over (suc n) by m J = next (next_settling J) refl (λ K. settling_over h over n by m K)
   where
     next : (o : Option Deed) → next_settling J ≡ o → ((K : History) → filter_map h (settling_within n by m K) ≡ [])
-        → filter_map h (option_map_or (λ (d : Deed). (let e : Entry = record { by = by; moment = m; deed = d } in e) ∷ settling_within n by m (J ++ (let e : Entry = record { by = by; moment = m; deed = d } in e) ∷ [])) o []) ≡ []
+        → filter_map h (option_map_or
+        (λ (d : Deed). (let e : Entry = record { by = by; moment = m; deed = d } in e) ∷ settling_within n by m
+        (J ++ (let e : Entry = record { by = by; moment = m; deed = d } in e) ∷ [])) o []) ≡ []
     next None g rest = refl
-    next (Some d) g rest = rw (over by m d (settles_none d (next_settles J d g))) (rest (J ++ (let e : Entry = record { by = by; moment = m; deed = d } in e) ∷ []))
+    next (Some d) g rest = rw (over by m d (settles_none d (next_settles J d g)))
+        (rest (J ++ (let e : Entry = record { by = by; moment = m; deed = d } in e) ∷ []))
 
 block_over : {Y : Type 0} (h : Entry → Option Y) → PassesOver h → (s : Terms) (J : History) (c : Call)
     → IfSome (own_deed s J (moment_of J c) c.command) (λ d. adds d ≡ false) → filter_map h (block s J c) ≡ []
@@ -182,7 +185,8 @@ first_of false true k a m e r f g h is = let same : refusal.NotAsked ≡ r = cc 
 first_of false false true a m e r f g h is = absurd cc
 first_of false false false true m e r f g h is = absurd cc
 first_of false false false false true e r f g h is = absurd cc
-first_of false false false false false true r f g h is = let same : refusal.Full resource.Entries ≡ r = cc in inr (inr (sym same))
+first_of false false false false false true r f g h is = let same : refusal.Full resource.Entries ≡ r = cc in
+    inr (inr (sym same))
 first_of false false false false false false r f g h is = absurd cc
 
 refused_with : (o : Option Refusal) (t : Told) (r : Refusal) → option_map_or Err o (Ok t) ≡ Err r → o ≡ Some r

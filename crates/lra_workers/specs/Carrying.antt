@@ -16,33 +16,35 @@ abbrev pub is_for_memory : WorkerEnd → Bool
 is_for_memory (Refused (office.Refused Memory)) = true
 is_for_memory _ = false
 
-module _ {O K : Type 0} (setting : O → Setting) (gives : ℕ → AskKind → Outcome → Type 0) (tells : K → ℕ → K → Type 0) where
-  -- a worker asks for the first moment at which something is due or late, and its clock isn't read
-  pub record LooksAhead (s : Post O K) (r : Result (Option ℕ) OfficeRefusal) (t : Post O K) : Type 0 where
-    pub clock : t.clock ≡ s.clock
-    pub told : IsLookedAhead (setting s.view.origin) s.view r t.view
+module _ {O K : Type 0} (setting : O → Setting) (gives : ℕ → AskKind → Outcome → Type 0) (tells : K → ℕ → K → Type 0)
+  where
+    -- a worker asks for the first moment at which something is due or late, and its clock isn't read
+    pub record LooksAhead (s : Post O K) (r : Result (Option ℕ) OfficeRefusal) (t : Post O K) : Type 0 where
+      pub clock : t.clock ≡ s.clock
+      pub told : IsLookedAhead (setting s.view.origin) s.view r t.view
 
-  -- it is told of that moment, or a call of its is refused for want of memory
-  abbrev pub GoesOn : Post O K → Post O K → Type 0
-  GoesOn s t = ((next : Option ℕ) × LooksAhead s (Ok next) t) ⊎ Fails setting gives tells s (office.Refused Memory) t
+    -- it is told of that moment, or a call of its is refused for want of memory
+    abbrev pub GoesOn : Post O K → Post O K → Type 0
+    GoesOn s t = ((next : Option ℕ) × LooksAhead s (Ok next) t) ⊎ Fails setting gives tells s (office.Refused Memory) t
 
-  -- it gives a worker's calls, and goes on so many times between them
-  unfoldable pub CarriesIn : ℕ → Post O K → Post O K → Type 0
-  CarriesIn zero s t = Works setting gives tells s t
-  CarriesIn (suc n) s t = (u : Post O K) × (v : Post O K) × CarriesIn n s u × GoesOn u v × Works setting gives tells v t
+    -- it gives a worker's calls, and goes on so many times between them
+    unfoldable pub CarriesIn : ℕ → Post O K → Post O K → Type 0
+    CarriesIn zero s t = Works setting gives tells s t
+    CarriesIn (suc n) s t = (u : Post O K) × (v : Post O K) × CarriesIn n s u × GoesOn u v
+        × Works setting gives tells v t
 
-  -- it gives a worker's calls, and no others, looks ahead between them, and passes over those that are refused for want
-  -- of memory
-  abbrev pub Carries : Post O K → Post O K → Type 0
-  Carries s t = (n : ℕ) × CarriesIn n s t
+    -- it gives a worker's calls, and no others, looks ahead between them, and passes over those that are refused for
+    -- want of memory
+    abbrev pub Carries : Post O K → Post O K → Type 0
+    Carries s t = (n : ℕ) × CarriesIn n s t
 
-  -- it does so up to a call that fails for one of a worker's reasons, or up to where no ticket is left to look ahead
-  abbrev pub CarriesUpTo : Post O K → OfficeRefusal → Post O K → Type 0
-  CarriesUpTo s r t = (u : Post O K) × Carries s u × (Fails setting gives tells u r t ⊎ LooksAhead u (Err r) t)
-      × EndsWorker r
+    -- it does so up to a call that fails for one of a worker's reasons, or up to where no ticket is left to look ahead
+    abbrev pub CarriesUpTo : Post O K → OfficeRefusal → Post O K → Type 0
+    CarriesUpTo s r t = (u : Post O K) × Carries s u × (Fails setting gives tells u r t ⊎ LooksAhead u (Err r) t)
+        × EndsWorker r
 
-  -- it does so, and ends
-  abbrev pub EndsCarrying : Post O K → WorkerEnd → Post O K → Type 0
-  EndsCarrying s Ended t = Carries s t
-  EndsCarrying s Held t = Carries s t
-  EndsCarrying s (Refused r) t = CarriesUpTo s r t
+    -- it does so, and ends
+    abbrev pub EndsCarrying : Post O K → WorkerEnd → Post O K → Type 0
+    EndsCarrying s Ended t = Carries s t
+    EndsCarrying s Held t = Carries s t
+    EndsCarrying s (Refused r) t = CarriesUpTo s r t

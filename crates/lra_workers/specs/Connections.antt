@@ -21,7 +21,8 @@ clerk_sight setting c = record {
       (clerk_view c).seen;
 }
 
-module _ {K : Type 0} (gives : Sight → ℕ → Order → Result Told CounterFault → Sight → Type 0) (tells : K → ℕ → K → Type 0) where
+module _ {K : Type 0} (gives : Sight → ℕ → Order → Result Told CounterFault → Sight → Type 0)
+    (tells : K → ℕ → K → Type 0) where
   -- a connection is answered: a stream of whatever bytes came, from a counter and a clock on to what is known of both
   -- afterwards
   pub record Connection (v : Sight) (k : K) (w : Sight) (l : K) : Type 0 where

@@ -56,39 +56,40 @@ TellsWhy is_shut holds has_stopped J Ended = is_shut
 TellsWhy is_shut holds has_stopped J Held = (e : Asking) × IsOfAsk J e × holds e.ask
 TellsWhy is_shut holds has_stopped J (Refused r) = r ≡ office.Refused Stopped → has_stopped
 
-module _ {O K : Type 0} (setting : O → Setting) (gives : ℕ → AskKind → Outcome → Type 0) (tells : K → ℕ → K → Type 0) where
-  -- a worker gives a call, at the moment that its clock tells, and it is refused or no ticket is left
-  pub record Fails (s : Post O K) (r : OfficeRefusal) (t : Post O K) : Type 0 where
-    pub call : Call
-    pub own : IsWorkersCall gives s.view call
-    pub clocked : tells s.clock call.moment t.clock
-    pub given : IsNotGiven (setting s.view.origin) s.view call r t.view
+module _ {O K : Type 0} (setting : O → Setting) (gives : ℕ → AskKind → Outcome → Type 0) (tells : K → ℕ → K → Type 0)
+  where
+    -- a worker gives a call, at the moment that its clock tells, and it is refused or no ticket is left
+    pub record Fails (s : Post O K) (r : OfficeRefusal) (t : Post O K) : Type 0 where
+      pub call : Call
+      pub own : IsWorkersCall gives s.view call
+      pub clocked : tells s.clock call.moment t.clock
+      pub given : IsNotGiven (setting s.view.origin) s.view call r t.view
 
-  -- or it is done
-  pub record Does (s t : Post O K) : Type 0 where
-    pub call : Call
-    pub own : IsWorkersCall gives s.view call
-    pub clocked : tells s.clock call.moment t.clock
-    pub told : Told
-    pub errand : Option Asking
-    pub given : IsGrown (setting s.view.origin) s.view call told errand t.view
+    -- or it is done
+    pub record Does (s t : Post O K) : Type 0 where
+      pub call : Call
+      pub own : IsWorkersCall gives s.view call
+      pub clocked : tells s.clock call.moment t.clock
+      pub told : Told
+      pub errand : Option Asking
+      pub given : IsGrown (setting s.view.origin) s.view call told errand t.view
 
-  -- so many calls are given, one after another: each is done, or it is to record what came of an ask that isn't
-  -- outstanding any more
-  unfoldable pub WorksIn : ℕ → Post O K → Post O K → Type 0
-  WorksIn zero s t = s ≡ t
-  WorksIn (suc n) s t = (u : Post O K) × WorksIn n s u × (Does u t ⊎ Fails u (office.Refused NotAsked) t)
+    -- so many calls are given, one after another: each is done, or it is to record what came of an ask that isn't
+    -- outstanding any more
+    unfoldable pub WorksIn : ℕ → Post O K → Post O K → Type 0
+    WorksIn zero s t = s ≡ t
+    WorksIn (suc n) s t = (u : Post O K) × WorksIn n s u × (Does u t ⊎ Fails u (office.Refused NotAsked) t)
 
-  -- a worker gives such calls, and no others
-  abbrev pub Works : Post O K → Post O K → Type 0
-  Works s t = (n : ℕ) × WorksIn n s t
+    -- a worker gives such calls, and no others
+    abbrev pub Works : Post O K → Post O K → Type 0
+    Works s t = (n : ℕ) × WorksIn n s t
 
-  -- it gives such calls, up to one that fails for one of those reasons
-  abbrev pub WorksUpTo : Post O K → OfficeRefusal → Post O K → Type 0
-  WorksUpTo s r t = (u : Post O K) × Works s u × Fails u r t × EndsWorker r
+    -- it gives such calls, up to one that fails for one of those reasons
+    abbrev pub WorksUpTo : Post O K → OfficeRefusal → Post O K → Type 0
+    WorksUpTo s r t = (u : Post O K) × Works s u × Fails u r t × EndsWorker r
 
-  -- it gives such calls, and ends
-  abbrev pub EndsWork : Post O K → WorkerEnd → Post O K → Type 0
-  EndsWork s Ended t = Works s t
-  EndsWork s Held t = Works s t
-  EndsWork s (Refused r) t = WorksUpTo s r t
+    -- it gives such calls, and ends
+    abbrev pub EndsWork : Post O K → WorkerEnd → Post O K → Type 0
+    EndsWork s Ended t = Works s t
+    EndsWork s Held t = Works s t
+    EndsWork s (Refused r) t = WorksUpTo s r t

@@ -9,7 +9,8 @@ use Rattle.lra_admission.specs.Serving.{Guard, Denies, Responds}
 
 module _ {S : Type 0} (looks : Rules → Rules → Type 0) (responds : S → ℕ → Request → Answered → S → Type 0)
     (base_of : S → List ℕ)
-    (stays : (before after : S) (moment : ℕ) (request : Request) (answered : Answered) → responds before moment request answered after → base_of after ≡ base_of before) where
+    (stays : (before after : S) (moment : ℕ) (request : Request) (answered : Answered)
+    → responds before moment request answered after → base_of after ≡ base_of before) where
   done_stays : (before after : S) (moment : ℕ) (request : Request) (answered : Answered) (denial : Option Denial)
       → MatchOption denial (responds before moment request answered after) (Denies before answered after)
       → base_of after ≡ base_of before

@@ -12,7 +12,12 @@ use Rattle.lra_commands.specs.Counters.{KeepsHistory}
 
 pub given_since : (s : Setting) (J : History) (c : Call) (reply : Result Told CounterFault) (K : History)
     → IsGivenAt s J c reply K → IsGivenSince s J c reply K
-given_since s J c reply K h = ([], refl, let P : History → Type 0 = λ L. IsGivenAt s L c reply K in subst P (sym (append-nil J)) h)
+given_since s J c reply K h = (
+  [],
+  refl,
+  let P : History → Type 0 = λ L. IsGivenAt s L c reply K in
+      subst P (sym (append-nil J)) h,
+)
 
 pub seen_after : (s : Setting) (J : History) (c : Call) (reply : Result Told CounterFault) (K : History)
     → IsGivenAt s J c reply K → IsSeenAfter s J c reply K

@@ -30,9 +30,11 @@ Sent v last request a old new (Ended Done) = (closes_after last request ≡ true
 Sent v last request a old new (Ended WriteFault) = AppendsFront old new (reply_to v last request a)
 Sent v last request a old new (Ended (Refused fault)) = ⊥
 
-module _ {K : Type 0} (gives : Sight → ℕ → Order → Result Told CounterFault → Sight → Type 0) (tells : K → ℕ → K → Type 0) where
+module _ {K : Type 0} (gives : Sight → ℕ → Order → Result Told CounterFault → Sight → Type 0)
+    (tells : K → ℕ → K → Type 0) where
   -- a request is answered
-  pub record Exchanges (last : Bool) (request : Request) (before after : Sight) (k l : K) (old new : Option (List ℕ)) (served : Served) : Type 0 where
+  pub record Exchanges (last : Bool) (request : Request) (before after : Sight) (k l : K) (old new : Option (List ℕ))
+      (served : Served) : Type 0 where
     pub answer : Answer
     pub moment : ℕ
     pub clocked : tells k moment l

@@ -6,7 +6,8 @@ use Rattle.lra_steps.specs.declared.responder.Answered.{Answered}
 use Rattle.lra_proxied.specs.Serving.{Served, Answers, Denies, Refuses, Responds, keeps_out}
 
 module _ {S : Type 0} (base_of : S → List ℕ) (responds : S → ℕ → Request → Answered → S → Type 0)
-    (stays : (before after : S) (moment : ℕ) (request : Request) (answered : Answered) → responds before moment request answered after → base_of after ≡ base_of before) where
+    (stays : (before after : S) (moment : ℕ) (request : Request) (answered : Answered)
+    → responds before moment request answered after → base_of after ≡ base_of before) where
   inner_stays : (before : Served S) (after : S) (moment : ℕ) (request : Request) (answered : Answered)
       → (IsTrue (keeps_out base_of responds before request) × Denies base_of responds before answered after)
       ⊎ (IsFalse (keeps_out base_of responds before request)

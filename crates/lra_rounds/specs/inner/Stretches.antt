@@ -5,7 +5,8 @@ use Rattle.lra_steps.specs.declared.responder.Answered.{Answered}
 use Rattle.lra_steps.specs.History.{Turn}
 use Rattle.lra_steps.specs.Pieces.{Chain}
 
-module _ {S K : Type 0} (base_of : S → List ℕ) (responds : S → ℕ → Request → Answered → S → Type 0) (tells : K → ℕ → K → Type 0) where
+module _ {S K : Type 0} (base_of : S → List ℕ) (responds : S → ℕ → Request → Answered → S → Type 0)
+    (tells : K → ℕ → K → Type 0) where
   -- so many requests are answered one after another, each once, at a moment that the clock tells, from a responder and
   -- a clock on to what is known of both afterwards
   pub record AnsweredIn (n : ℕ) (v : S) (k : K) (w : S) (l : K) : Type 0 where

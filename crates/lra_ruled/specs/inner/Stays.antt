@@ -6,7 +6,8 @@ use Rattle.lra_steps.specs.declared.responder.Answered.{Answered}
 use Rattle.lra_ruled.specs.Serving.{Served, Answers, Refuses, Responds}
 
 module _ {S : Type 0} (base_of : S → List ℕ) (responds : S → ℕ → Request → Answered → S → Type 0)
-    (stays : (before after : S) (moment : ℕ) (request : Request) (answered : Answered) → responds before moment request answered after → base_of after ≡ base_of before) where
+    (stays : (before after : S) (moment : ℕ) (request : Request) (answered : Answered)
+    → responds before moment request answered after → base_of after ≡ base_of before) where
   inner_stays : (before : Served S) (after : S) (moment : ℕ) (request : Request) (answered : Answered)
       → (Answers responds before moment request answered after ⊎ Refuses responds before request answered after)
       → base_of after ≡ base_of before.inner

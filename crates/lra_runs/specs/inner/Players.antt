@@ -50,14 +50,16 @@ placed (Record errand outcome) = Record (lent errand.now) outcome
 placed c = c
 
 -- what came of a call, and what was written of it
-pub record IsPerformed (before : Shape) (c : Call) (after : Shape) (x : Performed) (was now : Option (List ℕ)) : Type 0 where
-  pub refused : x.is_refused ≡ is_err (answer (terms_of player) before.history c)
-  pub given : x.given ≡ given_by before.history c
-  pub grown : IsGrown before after (after_call (terms_of player) before.history c)
-  pub written : Appends was now (call_text before.history c)
+pub record IsPerformed (before : Shape) (c : Call) (after : Shape) (x : Performed) (was now : Option (List ℕ)) : Type 0
+  where
+    pub refused : x.is_refused ≡ is_err (answer (terms_of player) before.history c)
+    pub given : x.given ≡ given_by before.history c
+    pub grown : IsGrown before after (after_call (terms_of player) before.history c)
+    pub written : Appends was now (call_text before.history c)
 
 -- a line was played: whether it was refused, what there is after it, and what was written of it
-pub record IsPlayedLine (s : Stage) (l : RequestLine) (t : Stage) (is_refused : Bool) (was now : Option (List ℕ)) : Type 0 where
+pub record IsPlayedLine (s : Stage) (l : RequestLine) (t : Stage) (is_refused : Bool)
+    (was now : Option (List ℕ)) : Type 0 where
   pub playable : is_playable s l ≡ true
   pub refused : is_refused ≡ is_err (line_answer s l)
   pub stage : t ≡ after_line s l
@@ -69,7 +71,8 @@ ComesTo s l t was now None = (is_playable s l ≡ false) × (now ≡ was)
 ComesTo s l t was now (Some is_refused) = IsPlayedLine s l t is_refused was now
 
 -- lines were read and played, what they print was written, and the rest is to come
-pub record IsPlayed (script : List ℕ) (before now : Option (List ℕ)) (p : Player) (is_refused : Bool) (number : ℕ) (rest : List ℕ) : Type 0 where
+pub record IsPlayed (script : List ℕ) (before now : Option (List ℕ)) (p : Player) (is_refused : Bool) (number : ℕ)
+    (rest : List ℕ) : Type 0 where
   pub lines : List RequestLine
   pub read : Begins script lines rest
   pub written : Appends before now (played lines)

@@ -25,7 +25,8 @@ pub record IsFresh (own : List ℕ) (h : History) : Type 0 where
   pub sent : h.sent ≡ []
   pub base : h.base ≡ own
 
-module _ {S K : Type 0} (base_of : S → List ℕ) (responds : S → ℕ → Request → Answered → S → Type 0) (tells : K → ℕ → K → Type 0) where
+module _ {S K : Type 0} (base_of : S → List ℕ) (responds : S → ℕ → Request → Answered → S → Type 0)
+    (tells : K → ℕ → K → Type 0) where
   -- All requests of the connection that were answered were so, one after another, and none stands.
   pub record Follows (v : S) (k : K) (h : History) (w : S) (l : K) : Type 0 where
     pub chain : Chain responds tells v k h.turns w l
@@ -33,11 +34,12 @@ module _ {S K : Type 0} (base_of : S → List ℕ) (responds : S → ℕ → Req
     pub none : h.stands ≡ None
 
   -- a piece was taken, and what stood was answered
-  pub record Fed (end : Option StreamEnd) (piece : List ℕ) (v : S) (k : K) (old new : History) (w : S) (l : K) : Type 0 where
-    pub follows : Follows v k new w l
-    pub instance : new.instance ≡ old.instance
-    pub base : new.base ≡ old.base
-    pub sent : new.sent ≡ old.sent
-    pub closed : new.closed ≡ old.closed
-    pub taken : TakesPiece end old.taken new.taken piece
-    pub comes : Comes end new
+  pub record Fed (end : Option StreamEnd) (piece : List ℕ) (v : S) (k : K) (old new : History) (w : S) (l : K) : Type 0
+    where
+      pub follows : Follows v k new w l
+      pub instance : new.instance ≡ old.instance
+      pub base : new.base ≡ old.base
+      pub sent : new.sent ≡ old.sent
+      pub closed : new.closed ≡ old.closed
+      pub taken : TakesPiece end old.taken new.taken piece
+      pub comes : Comes end new

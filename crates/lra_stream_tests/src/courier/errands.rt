@@ -24,7 +24,8 @@ Connection: close\r
 \r
 ";
 
-/// Between `|`: a response to each ask; and behind `>` what came of the first, and for each later ask what goes out and what came of
+/// Between `|`: a response to each ask; and behind `>` what came of the first, and for each later ask what goes out and
+/// what came of
 /// it. The bodies of the later rows are chunked: their lengths are hexadecimal digits.
 const CARRIED: &str = "\
 HTTP/1.1 202 Accepted~Content-Length: 0~~|HTTP/1.1 412 Precondition Failed~Content-Length: 0~~|HTTP/1.1 410 Gone~Content-Length: 0~~>1 accepted~GET /s HTTP/1.1~Host: p.test:9000~Long-Running-Action: $1~Long-Running-Action-Recovery: %1~Connection: close~~2 silent~PUT /c HTTP/1.1~Host: p.test:9000~Long-Running-Action: $1~Long-Running-Action-Recovery: %1~Content-Length: 0~Connection: close~~3 done~

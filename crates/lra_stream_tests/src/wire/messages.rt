@@ -7,9 +7,12 @@ use std::fmt::Write;
 use std::str::from_utf8;
 use std::test::Fail;
 
-// Between `|`: whether requests or responses are read, and of a stream that ends or fails; the stream; and what each call reads of
-// it: of a request the method, the target, the minor version, whether the stream is to be closed, and the body; of a response the
-// code and the body. `~` stands for a line's end, and `^` for a line feed. Nothing is asked of the reader where a whole message
+// Between `|`: whether requests or responses are read, and of a stream that ends or fails; the stream; and what each
+// call reads of
+// it: of a request the method, the target, the minor version, whether the stream is to be closed, and the body; of a
+// response the
+// code and the body. `~` stands for a line's end, and `^` for a line feed. Nothing is asked of the reader where a whole
+// message
 // has come, or it would fail.
 const READ: &str = "\
 requests fail|~POST /lra-coordinator HTTP/1.1~host: x~Content-Length: 2~~{}^GET /a HTTP/1.0^^|POST /lra-coordinator 1 false {}^GET /a 0 true ^input or output failed^

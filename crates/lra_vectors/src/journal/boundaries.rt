@@ -1,4 +1,5 @@
-//! Texts that are no line, since they lack its line feed or have another beside it. Lines, and what is none by a little,
+//! Texts that are no line, since they lack its line feed or have another beside it. Lines, and what is none by a
+//! little,
 //! are asked of the built program (`line-` in `vectors/audit`).
 
 use super::*;

@@ -28,7 +28,8 @@ returns-then-count-left-clause-counted g c =
     (Consumes-trans (g.R.Read.remaining c.args.reader.now) (g.R.Read.remaining c.loop.reader)
     (g.R.Read.remaining c.next_piece.new.reader) given.bytes (take c.in_ok-count.count c.next_piece.new.piece)
     given.consumed read.bytes)
-    (let both = length-append given.bytes (take c.in_ok-count.count c.next_piece.new.piece) in let count = read.bound.1 in let all = given.counted in omega (arith, both, count, all))
+    (let both = length-append given.bytes (take c.in_ok-count.count c.next_piece.new.piece) in
+    let count = read.bound.1 in let all = given.counted in omega (arith, both, count, all))
 
 pub loop-preserved : goal.loop-preserved
 loop-preserved g c =

@@ -36,4 +36,5 @@ returns-in-None-clause-ok c = rw c.in-Some.ensures (ready_past c.args.rows.now.i
     past : (c.in-Some.place < length c.args.rows.now.items) ⊎ (length c.args.rows.now.items ≤ c.in-Some.place)
         → length c.args.rows.now.items ≤ c.in-Some.place
     past (inr x) = x
-    past (inl x) = let h : false ≡ true = c.in-None.ensures.variant.1 (subst (λ n. c.in-Some.place < n) (sym c.args.rows.now.ok.0) x) in absurd cc
+    past (inl x) = let h : false ≡ true = c.in-None.ensures.variant.1
+        (subst (λ n. c.in-Some.place < n) (sym c.args.rows.now.ok.0) x) in absurd cc

@@ -35,4 +35,5 @@ returns-in-None-clause-ok c = rw c.in-Some.ensures (place_past c.args.nests.now.
     past : (c.in-Some.place < length c.args.nests.now.items) ⊎ (length c.args.nests.now.items ≤ c.in-Some.place)
         → length c.args.nests.now.items ≤ c.in-Some.place
     past (inr x) = x
-    past (inl x) = let h : false ≡ true = c.in-None.ensures.variant.1 (subst (λ n. c.in-Some.place < n) (sym c.args.nests.now.ok.0) x) in absurd cc
+    past (inl x) = let h : false ≡ true = c.in-None.ensures.variant.1
+        (subst (λ n. c.in-Some.place < n) (sym c.args.nests.now.ok.0) x) in absurd cc

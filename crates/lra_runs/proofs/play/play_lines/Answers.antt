@@ -46,7 +46,9 @@ loop-rest-preserved g c =
     let others = c.split_at.result.1.now in
     let found = c.in-Some.ensures.found in
     let read = c.in-Some-read_request_line.ensures.found in
-    let parts : rest ≡ front ++ others = (let front_is = c.split_at.ensures.front in let back_is = c.split_at.ensures.back in let joined = take-append-drop c.in-Some.end rest in cc) in
+    let parts : rest ≡ front ++ others =
+    (let front_is = c.split_at.ensures.front in let back_is = c.split_at.ensures.back in
+    let joined = take-append-drop c.in-Some.end rest in cc) in
     let some : 0 < length front = omega (
       arith,
       ap length c.split_at.ensures.front,

@@ -3,7 +3,8 @@ use Rattle.lra_wire.proofs.FrontLemmas.{body_unfinished, sees_all, head_open, se
 use Rattle.lra_wire.proofs.front.request_front_seen.Goals as goal
 
 pub returns-then-stays_open-clause-front : goal.returns-then-stays_open-clause-front
-returns-then-stays_open-clause-front c = let stays = c.stays_open.ensures c.if-stays_open.true in (stays.awaits, stays.bound)
+returns-then-stays_open-clause-front c = let stays = c.stays_open.ensures c.if-stays_open.true in
+    (stays.awaits, stays.bound)
 
 pub returns-then-stays_open-clause-seen : goal.returns-then-stays_open-clause-seen
 returns-then-stays_open-clause-seen c = sees_all c.args.seen.now c.args.bytes.now c.requires

@@ -15,7 +15,8 @@ take_back-uris-requires c =
     let h = c.requires.trail in
     let size : c.args.trail.now.steps.len ≡ length steps = c.args.trail.now.steps.ok.0 in
     let inside : c.loop-place.place - 1 < length steps = omega arith in
-    let here = slice_get_read entries (length entries) (c.loop-place.place - 1) c.index.result.now refl (let n = h.many in omega arith) c.index.ensures in
+    let here = slice_get_read entries (length entries) (c.loop-place.place - 1) c.index.result.now refl
+    (let n = h.many in omega arith) c.index.ensures in
     let step = slice_get_read steps (length steps) (c.loop-place.place - 1) c.index-in-loop-place.result.now refl inside
     c.index-in-loop-place.ensures in
     last_came c.requires.from entries steps c.args.self.now c.loop-place.self c.index.result.now
@@ -28,7 +29,8 @@ loop-place-preserved c =
     let steps = c.args.trail.now.steps.items in
     let size : c.args.trail.now.steps.len ≡ length steps = c.args.trail.now.steps.ok.0 in
     let inside : c.loop-place.place - 1 < length steps = omega arith in
-    let here = slice_get_read entries (length entries) (c.loop-place.place - 1) c.index.result.now refl (let n = c.requires.trail.many in omega arith) c.index.ensures in
+    let here = slice_get_read entries (length entries) (c.loop-place.place - 1) c.index.result.now refl
+    (let n = c.requires.trail.many in omega arith) c.index.ensures in
     let step = slice_get_read steps (length steps) (c.loop-place.place - 1) c.index-in-loop-place.result.now refl inside
     c.index-in-loop-place.ensures in
     record {

@@ -17,7 +17,8 @@ join_seat-requires g c = (
 )
 
 pub returns-clause-seen : goal.returns-clause-seen
-returns-clause-seen g c = let a = c.args.first.seat.me.0.seen in let b = c.args.second.seat.me.0.seen in let met = c.meet-first.ensures in
+returns-clause-seen g c = let a = c.args.first.seat.me.0.seen in let b = c.args.second.seat.me.0.seen in
+    let met = c.meet-first.ensures in
     let is : c.join_seat.new.seat.me.0.seen ≡ longer a b = ap (λ m. m.0.seen) c.join_seat.ensures.2
     ∙ (λ i. longer (ap (λ v. v.seen) met.first i) (ap (λ v. v.seen) met.second i)) in
     subst (λ (l : List Entry). IsPrefix a l × IsPrefix b l) (sym is) (longer_of

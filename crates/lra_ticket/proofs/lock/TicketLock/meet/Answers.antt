@@ -29,7 +29,9 @@ split_seat-other-requires g c = (
 -- what is told of the view v that also stands for w
 told : {X O : Type 0} (m : Hand X O) (v w : View O) (slots : List (ℕ × Option X)) → m ≡ (paired v w, slots)
     → ((k : ℕ) (h : List Entry) → m.0.place ≡ Paired k h → IsMet m.0 k h) → IsMet v w.number w.seen
-told {X = X} {O = O} m v w slots is tells = let met = subst (λ (m : Hand X O). (k : ℕ) (h : List Entry) → m.0.place ≡ Paired k h → IsMet m.0 k h) is tells w.number w.seen refl in
+told {X = X} {O = O} m v w slots is tells = let met = subst
+    (λ (m : Hand X O). (k : ℕ) (h : List Entry) → m.0.place ≡ Paired k h → IsMet m.0 k h) is
+    tells w.number w.seen refl in
     record { in_line = met.in_line; complete = met.complete; apart = met.apart }
 
 pub returns-clause-in_line : goal.returns-clause-in_line
