@@ -1,4 +1,4 @@
--- The keys of those who may call.
+-- Keys that requests have to give.
 use Rattle.std.specs.Prelude.{◌≡◌, ⊤, ℕ, ◌<◌, ◌≤◌, Bool, if◌then◌else◌, List, length, take, drop, codes, bytes_eq}
 use Rattle.std.specs.Prelude.{Option, Some, None, Ok, Err}
 use Rattle.std.specs.List.{list_any}

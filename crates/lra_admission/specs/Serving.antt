@@ -1,4 +1,4 @@
--- Whoever answers, asked only what is let in.
+-- A responder that is asked only what is let in.
 use Rattle.std.specs.Prelude.{◌≡◌, ℕ, is_some, None, MatchOption}
 use Rattle.lra_wire.specs.Request.{Request}
 use Rattle.lra_front.specs.declared.denial.Denial.{Denial}
@@ -6,7 +6,7 @@ use Rattle.lra_front.specs.declared.answer.Answer.TheVariants as answer
 use Rattle.lra_steps.specs.declared.responder.Answered.{Answered}
 use Rattle.lra_admission.specs.Admitting.{Rules, denial_of}
 
--- what there is to know of who answers, and what is in force
+-- state of the responder, and the keys and names in force
 pub record Guard (S : Type 0) : Type 0 where
   pub inner : S
   pub rules : Rules
@@ -26,7 +26,7 @@ pub record Responds {S : Type 0} (looks : Rules → Rules → Type 0) (responds 
       (responds before.inner moment request answered after.inner)
       (Denies before.inner answered after.inner)
 
--- who answers rests, and what is in force stays so
+-- a rest is that of the responder; what is in force stays
 pub record Rests {S : Type 0} (rests : S → S → Type 0) (before after : Guard S) : Type 0 where
   pub inner : rests before.inner after.inner
   pub rules : after.rules ≡ before.rules

@@ -29,7 +29,7 @@ struct Kept {
     seen: Option<Print>,
 }
 
-/// The keys of a file, which those who answer share: where the file changes they are read again.
+/// Keys of a file, which all connection workers share: they are read again where the file changes.
 #[derive(Drop)]
 pub struct KeyBook {
     alloc: Global,

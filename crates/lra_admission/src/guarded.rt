@@ -19,7 +19,7 @@ pub struct Guarded<A: Responder, L: Latest, H: Refused> {
 }
 
 impl<A: Responder, L: Latest + Drop, H: Refused + Drop> Guarded<A, L, H> {
-    /// That of one who answers.
+    /// Adds keys and names to a responder.
     pub fn new(inner: A, latest: L, herald: H) -> Guarded<A, L, H>
         ensures inner { result.inner ≡ inner }
         ensures latest { result.latest ≡ latest }

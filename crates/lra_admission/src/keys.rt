@@ -1,4 +1,4 @@
-//! The keys of those who may call.
+//! Keys that requests have to give.
 
 ghost use Rattle.std.specs.Prelude.{◌≡◌, [], ◌∷◌, ◌++◌, bytes_eq, Ok, IfOk, IfErr, OnOk, option_map};
 ghost use Rattle.std.specs.List.{list_any};
@@ -15,7 +15,7 @@ use std::alloc::Global;
 /// The beginning of a value of `Authorization` that gives a secret.
 const SCHEME: &[u8] = b"bearer ";
 
-/// The keys of those who may call: the digests of their secrets.
+/// Keys that requests have to give: the digests of their secrets.
 #[derive(Drop)]
 pub struct Keys {
     digests: Vec<[u8; DIGEST]>,

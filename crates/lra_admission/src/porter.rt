@@ -12,7 +12,7 @@ use crate::told::Renewed;
 use lra_model::Memory;
 use std::sync::{Arc, Wait};
 
-/// Those keys of a book that one who answers goes by.
+/// The keys of a book that are in force at one connection worker.
 #[derive(Drop)]
 struct Held<'a> {
     book: &'a KeyBook,

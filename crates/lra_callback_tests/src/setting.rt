@@ -111,7 +111,7 @@ fn member(alloc: Global, socket: &str, number: u64) -> Option<Uris> {
     Some(uris)
 }
 
-/// Has so many members at a host and port join.
+/// Joins so many members at a host and port.
 fn join_all(alloc: Global, coordinator: &mut Coordinator, socket: &str, count: u64) -> Option<()> {
     for number in 0..count {
         let member = member(alloc, socket, number)?;

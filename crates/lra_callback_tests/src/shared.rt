@@ -92,7 +92,7 @@ fn take_one<C: Carriage>(alloc: Global, carriage: &mut C, held: &mut Vec<Held>) 
     }
 }
 
-/// Has both carry an errand to one host, and the host answer only once the second has waited.
+/// Carries an errand by each of both to one host, which answers only once the second has waited.
 fn carry_both<R: Clock, C: Carriage>(
     rt: &R,
     alloc: Global,
@@ -115,7 +115,7 @@ fn carry_both<R: Clock, C: Carriage>(
     }
 }
 
-/// Has the second carry an errand once the first has ended, whose errand to that host nobody answers.
+/// Carries an errand by the second once the first has ended, whose errand to that host nobody answers.
 fn carry_after<'a, R: Wait + Net + Clock>(
     rt: &'a R,
     alloc: Global,

@@ -122,9 +122,9 @@ impl<'a, R, G: SyncGroup> Model for Callbacks<'a, R, G> {
 
 impl<'a, R: Wait + Net + time::Clock, G: SyncGroup> Callbacks<'a, R, G> {
     /// None is under way. What the rules don't let is not connected to, and silent. The poll is one that
-    /// [`bell`](crate::bell) gave, as the bells of all who carry, where its own has that place. A callback goes out
-    /// once the quota, which all have, gives a permit. How many are under way is told there whenever one is taken or
-    /// done. A member that was silent isn't asked again in the same stage until the least pause has passed, in
+    /// [`bell`](crate::bell) gave, as the bells of all callback workers, where its own has that place. A callback goes
+    /// out once the quota, which all have, gives a permit. How many are under way is told there whenever one is taken
+    /// or done. A member that was silent isn't asked again in the same stage until the least pause has passed, in
     /// milliseconds: 0 spares none, and `u64::MAX` never ends. Others may change it at any time; what came before it
     /// was told isn't known. Who waits so isn't counted as under way. The clock is the one by which its office's
     /// moments are given: where it has ten seconds to go until the greatest moment, or less, silent members are spared
@@ -219,7 +219,7 @@ impl<'a, R: Wait + Net + time::Clock, G: SyncGroup> Callbacks<'a, R, G> {
         self.tell();
     }
 
-    /// Has one wait whose member is spared or was given up, once the disk keeps what it has to. Tells whether it does.
+    /// Defers a durable call whose member is backing off or was given up. Returns whether it was deferred.
     fn holds(&mut self, key: usize) -> bool
         ensures { self.new ≡ self.old }
     {
@@ -263,7 +263,7 @@ impl<'a, R: Wait + Net + time::Clock, G: SyncGroup> Callbacks<'a, R, G> {
         }
     }
 
-    /// Has one wait for its time or its host, where the disk is durable up to its position. Returns whether it waits
+    /// Queues a call for its time or its host, where the disk is durable up to its position. Returns whether it waits
     /// for the disk no longer.
     fn depart(&mut self, key: usize) -> bool
         ensures { self.new ≡ self.old }
@@ -325,7 +325,7 @@ impl<'a, R: Wait + Net + time::Clock, G: SyncGroup> Callbacks<'a, R, G> {
         self.traffic.end(key);
     }
 
-    /// Has one set out to its host.
+    /// Begins the call of a host that has a permit.
     fn start(&mut self, key: usize, host: usize, now: u64)
         ensures { self.new ≡ self.old }
     {
@@ -512,8 +512,8 @@ impl<'a, R: Wait + Net + time::Clock, G: SyncGroup> Callbacks<'a, R, G> {
         self.count() < self.share.held as usize
     }
 
-    /// Wakes those who carry, since something is due that wasn't taken here: there is no room for it, or there was too
-    /// much at once. It does so every 50 ms at most, so that those who have no room either may rest.
+    /// Wakes the other callback workers, since something is due that wasn't taken here: there is no room for it, or
+    /// there was too much at once. It does so every 50 ms at most, so that workers without room may rest.
     fn call_others(&mut self, now: u64)
         ensures { self.new ≡ self.old }
     {

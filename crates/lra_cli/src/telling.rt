@@ -182,7 +182,7 @@ fn answer_list<
     settle(rt, outcome, place)
 }
 
-/// Has the end asked for where standard input ends, if it is to be so.
+/// Asks for the end where standard input ends, if that is configured.
 fn watch_end<R: Threads + Input>(
     rt: &R,
     stop: &Arc<Stop>,

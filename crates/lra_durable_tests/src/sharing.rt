@@ -185,7 +185,7 @@ fn a_journal_that_ended_is_durable_to_its_end(rt: HostRuntime) {
     assert!(rt; ends_whole(&rt, rt.alloc()) == Some(true));
 }
 
-/// Returns whether a failed sync of one journal is known to those who wait for another, and to its writer.
+/// Returns whether a failed sync of one journal is known to threads that wait for another, and to its writer.
 fn fails_together<R: Wait>(rt: &R, alloc: Global) -> Option<bool> {
     let (two, mut other) = begin_two(rt, alloc, 9)?;
     let group = &two.group;

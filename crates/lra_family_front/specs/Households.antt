@@ -46,7 +46,7 @@ KeepsBase before after = (base : List ℕ) → HaveBase base before → HaveBase
 
 module _ {C : Type 0} (tells : Option ℕ → Bool → Type 0) (sight : C → Sight) (covers : C → ℕ → Bool)
     (gives : Sight → ℕ → Order → Result Told CounterFault → Sight → Type 0) where
-  -- a request is answered as in a family that stays, where it is sure who answers; or it is refused, and reaches none
+  -- a request is answered as in a family that stays, where the counter is known; or it is refused, and reaches none
   abbrev pub Outcome : List Sight → ℕ → Request → Answered → List Sight → Type 0
   Outcome before moment request answered after =
       (IsSure tells before request × ServesOrdered sight covers gives before (record {

@@ -50,8 +50,8 @@ pub trait Kinship<C: Counter + Drop> {
     // What it may tell of what names an instance, or none.
     ghost tells: { Option ℕ → Bool → Type 0 };
 
-    /// Has counters join that are newer than all, and others leave. Where memory for one is refused, that one may join
-    /// at another look.
+    /// Adds counters that are newer than all, and removes others. Where memory for one is refused, that one may be
+    /// added at another look.
     fn look(&mut self, family: &mut Family<C>)
         ensures moved { Moved family.old family.new }
         ensures base { KeepsBase family.old family.new };
@@ -83,7 +83,7 @@ fn is_kin<C: Counter + Drop>(family: &Family<C>, counter: &C) -> bool
     newest(family).base().as_str() == counter.base().as_str()
 }
 
-/// Has a counter join a family, where it is newer than all and its URIs begin as theirs do. Else, or where memory is
+/// Adds a counter to a family, where it is newer than all and its URIs begin as theirs do. Else, or where memory is
 /// refused, it is given back.
 pub fn admit<C: Counter + Drop>(family: &mut Family<C>, counter: C) -> Result<(), C>
     ensures moved { Moved family.old family.new }

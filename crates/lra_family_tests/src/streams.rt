@@ -10,7 +10,7 @@ use lra_ids::Instance;
 use lra_steps::{Responder, answer_pieces};
 use std::alloc::Global;
 
-/// Has a newer counter join at the third look.
+/// Adds a newer counter at the third look.
 #[derive(Drop)]
 struct Late {
     looks: u64,

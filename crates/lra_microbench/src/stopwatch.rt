@@ -3,8 +3,7 @@
 use std::num::nearest_u64_to_f64;
 use std::time::{Clock, Instant};
 
-/// Takes a time. Where the clock can't be read the time is infinite, so that whoever has something in hand needn't let
-/// go of it.
+/// Time since a beginning. Where the clock can't be read it is infinite, so that a caller needn't end what it holds.
 #[derive(Clone, Copy)]
 pub struct Stopwatch {
     start: Option<Instant>,

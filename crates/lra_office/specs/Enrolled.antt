@@ -18,6 +18,6 @@ pub record IsEnrolled {O : Type 0} (g : Setting) (v : View O) (moment number : �
   pub grown : IsGrown g v (enrolment moment) (Clerk number) None w
   pub fresh : entries_by number grown.history ≡ []
 
--- a clerk wasn't enrolled, for a reason that the call met; whoever was to be it is gone
+-- a clerk wasn't enrolled, for a reason that the call met; its pass is gone
 abbrev pub IsNotEnrolled : {O : Type 0} → Setting → View O → ℕ → OfficeRefusal → Type 0
 IsNotEnrolled {O} g v moment refusal = (w : View O) × IsNotGiven g v (enrolment moment) refusal w

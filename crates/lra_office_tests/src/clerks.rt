@@ -32,7 +32,7 @@ fn acts_alone<V: Serving, R: Wait>(rt: &R, office: &OfficeOf<V>, clerk: &mut Cle
     started && closed && told
 }
 
-/// The only clerk of an office, and whether it is answered as one who is alone.
+/// The only clerk of an office, and whether it is answered as a lone one.
 fn alone<V: Serving, R: Wait>(
     rt: &R,
     office: &OfficeOf<V>,

@@ -127,7 +127,8 @@ fn two_answer<V: Serving + Send, R: Threads + Wait + Sync>(
 /// A flag, set where both threads that answer a client end so, and the bytes that the client reads.
 type Visited = (bool, io::Result<Vec<u8>>);
 
-/// Two who answer a connection each, beside a client of theirs: whether both end so, and what the client reads.
+/// Two workers that answer a connection each, beside a client of theirs: whether both end so, and what the client
+/// reads.
 fn visited<
     V: Serving + Send,
     R: Threads + Wait + Sync + Net<Listener = TcpListener, Stream = TcpStream>,

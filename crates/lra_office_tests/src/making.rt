@@ -30,7 +30,7 @@ pub fn base(alloc: Global) -> Result<Address, Fail>
     }
 }
 
-/// A new office with a writer, and the pass of whoever enrols first.
+/// A new office with a writer, and the pass of its first clerk.
 pub fn made<W: Write + Drop>(alloc: Global, writer: W) -> Result<(Office<W>, Pass<Desk<W>>), Fail>
     ensures lock { IfOk result (λ r. pass_id r.1 ≡ lock_id r.0.lock) }
     ensures newcomer { IfOk result (λ r. (pass_view r.1).number ≡ 0) }

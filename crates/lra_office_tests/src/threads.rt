@@ -73,7 +73,7 @@ fn note(
     written.push(own).ok()
 }
 
-/// The addresses of one who joins at this turn of a clerk.
+/// The addresses of the member that joins at this turn of a clerk.
 fn joining(alloc: Global, number: u32, turn: u64) -> Result<Uris, AllocError> {
     let host = format!(in alloc; "http://p{number}.test/{turn}")?;
     participant(alloc, &host, false)
@@ -88,7 +88,7 @@ fn outcome_of(ask: u64) -> Outcome {
     }
 }
 
-/// One who works at an office in a thread.
+/// A thread that works at an office.
 #[derive(Drop)]
 struct Worker<'a, V: Serving, R> {
     rt: &'a R,

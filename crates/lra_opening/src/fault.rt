@@ -20,7 +20,7 @@ pub enum ServeFault {
     #[error("the file can't be written")]
     File,
     /// It is no base, or can't be bound; the clock can't be read, stands before 1970, or is past what an instance can
-    /// be; the journal passes the limits; or all threads that answered have ended.
+    /// be; the journal passes the limits; or all connection workers have ended.
     #[error("the address can't be served")]
     Address,
 }

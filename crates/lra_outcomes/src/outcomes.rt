@@ -56,14 +56,14 @@ impl Outcomes {
         self.book.lock(rt).find(alloc, member)
     }
 
-    /// Has a member not told any more that its action has ended.
+    /// Marks a member as one that isn't told any more that its action has ended.
     pub fn give_up<R: Wait>(&self, rt: &R, member: u64) -> Result<(), AllocError> {
         self.given_up.lock(rt).insert(member)?;
         self.gives_up.store(true, Ordering::SeqCst);
         Ok(())
     }
 
-    /// Has it told again.
+    /// Removes that mark.
     pub fn take_up<R: Wait>(&self, rt: &R, member: u64) {
         self.given_up.lock(rt).remove(&member);
     }

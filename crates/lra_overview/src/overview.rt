@@ -67,7 +67,7 @@ pub trait Overview {
     /// Returns the base that the URIs of the journals begin with.
     fn base(&self) -> &Base;
 
-    /// Has the journals join that are new, and those leave that were put away.
+    /// Adds the journals that are new, and removes those that were archived.
     fn catch_up(&mut self)
         ensures { orders self.new ≡ orders self.old };
 
@@ -99,8 +99,8 @@ pub trait Overview {
     fn give(&mut self, instance: Instance, order: &Order<'_>) -> Result<Told, CounterFault>
         ensures { Gives instance order.now (orders self.old) (orders self.new) };
 
-    /// Has a member of a journal that has ended not asked any more whether it knows that its action has. It writes
-    /// nothing into the journal.
+    /// Ends the asks to a member of a journal whether it knows that its action has ended. It writes nothing into the
+    /// journal.
     fn end_asking(&mut self, instance: Instance, member: u64) -> Result<(), CounterFault>
         ensures { orders self.new ≡ orders self.old };
 }

@@ -52,7 +52,7 @@ pub(crate) fn first_open(last: Option<Instance>) -> u64 {
     }
 }
 
-/// Has nothing new begun in journals before the first one. Tells whether there is a newest one, which comes last, that
+/// Closes journals before the first one to new work. Returns whether there is a newest one, which comes last, that
 /// takes what is begun.
 pub(crate) fn retire<B: Clerkship + Drop>(watches: &[Watch<B>], first: u64) -> bool {
     let mut takes = false;

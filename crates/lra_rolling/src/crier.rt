@@ -50,7 +50,7 @@ impl Crier {
         })
     }
 
-    /// Wakes those who carry, as it is woken, until no one answers any more.
+    /// Wakes the callback workers, as it is woken, until no connection worker is left.
     pub(crate) fn run<R: Wait + Clock, B: Drop>(
         &self,
         rt: &R,

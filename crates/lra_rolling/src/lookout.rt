@@ -188,7 +188,7 @@ impl<'s, 'a: 's, R: Wait + Clock, H, B: Clerkship + Drop> Lookout<'_, 's, 'a, R,
         }
     }
 
-    /// Has a member not told any more that its action has ended, once that is noted on disk.
+    /// Marks a member as one that isn't told any more that its action has ended, once that is noted on disk.
     fn give_up_at(&self, journal: &Journal<B>, member: u64) -> Result<(), Refusal> {
         let rt = self.shift.rt;
         if journal.outcomes.give_up(rt, member).is_err() {

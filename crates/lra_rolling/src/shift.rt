@@ -40,7 +40,7 @@ pub(crate) enum Duty {
     Answer(u32),
     /// Answers operators.
     Watch,
-    /// Wakes those who carry callbacks.
+    /// Wakes the callback workers.
     Cry,
     /// Looks up the names of members' hosts.
     LookUp,
@@ -217,7 +217,7 @@ impl<'s, 'a: 's, R: Wait, H, B> Shift<'s, 'a, R, H, B> {
         self.workers
     }
 
-    /// Lets those who stand work.
+    /// Lets the threads that wait at the latch work.
     pub(crate) fn begin(&self) {
         self.latch.decide(self.rt, true);
     }
@@ -250,7 +250,7 @@ impl<'s, 'a: 's, R: Wait, H: Journalist, B> Shift<'s, 'a, R, H, B> {
 }
 
 impl<'s, 'a: 's, R: Wait, H: Herald + Journalist, B> Shift<'s, 'a, R, H, B> {
-    /// Tells why the one who carried for a journal has ended, unless the disk has failed: then the program ends, and
+    /// Tells why the callback worker of a journal has ended, unless the disk has failed: then the program ends, and
     /// says so.
     fn tell_end(&self, end: WorkerEnd, journal: Instance) {
         if !self.has_failed() {
@@ -261,7 +261,7 @@ impl<'s, 'a: 's, R: Wait, H: Herald + Journalist, B> Shift<'s, 'a, R, H, B> {
 }
 
 impl<'s, 'a: 's, R: Wait, H, B: Drop> Shift<'s, 'a, R, H, B> {
-    /// Takes down that one who answered connections has ended: with the last one all end.
+    /// Notes that a connection worker has ended: with the last one all threads end.
     fn leave(&self) {
         if self.answering.fetch_sub(1, Ordering::SeqCst) <= 1 {
             self.calling.names.close(self.rt);
@@ -271,8 +271,8 @@ impl<'s, 'a: 's, R: Wait, H, B: Drop> Shift<'s, 'a, R, H, B> {
         }
     }
 
-    /// Hands on the connections that come, until there are to be no others. Then those who carry look whether they are
-    /// to end.
+    /// Hands on the connections that come, until there are to be no others. Then it wakes the callback workers, which
+    /// look whether they are to end.
     fn admit(&self) {
         self.door.open();
         self.roster.ring(self.rt);
@@ -280,7 +280,7 @@ impl<'s, 'a: 's, R: Wait, H, B: Drop> Shift<'s, 'a, R, H, B> {
 }
 
 impl<'s, 'a: 's, R: Wait + time::Clock, H, B: Drop> Shift<'s, 'a, R, H, B> {
-    /// Wakes those who carry.
+    /// Wakes the callback workers.
     fn cry(&self) {
         self.crier
             .run(self.rt, self.alloc, self.roster, self.ending);

@@ -22,7 +22,7 @@ pub struct Journal<B> {
     entries: u64,
     /// From this clerk each thread has its own.
     branch: Mutex<Option<B>>,
-    /// The place of who carries.
+    /// The place of its callback worker.
     pub stall: Stall,
     /// Bells that wake its callback worker.
     pub bells: Arc<Vec<Waker>>,
@@ -116,7 +116,7 @@ impl<B: Drop> Journal<B> {
         self.entries.saturating_add(self.file.entries())
     }
 
-    /// Wakes who carries.
+    /// Wakes its callback worker.
     pub fn ring(&self) {
         ring(self.bells.as_slice());
     }
@@ -127,7 +127,7 @@ impl<B: Drop> Journal<B> {
         self.heard.swap(bytes, Ordering::SeqCst) != bytes || self.under_way() > 0
     }
 
-    /// It is put away: who carries ends.
+    /// Ends its callback worker: it is archived.
     pub fn finish(&self) {
         self.is_over.store(true, Ordering::SeqCst);
         self.ring();

@@ -106,7 +106,7 @@ impl<R: Wait + time::Clock, B: Clerkship + Drop> Kin<'_, '_, R, B> {
         true
     }
 
-    /// Has those leave that are no more among the journals. The family's newest stays until another one is.
+    /// Removes those that are no more among the journals. The family's newest stays until another one is.
     #[tactic(auto, using(crate::proofs::Grows::steps))]
     fn leave_all(&mut self, family: &mut Family<B>, journals: &[Arc<Journal<B>>])
         ensures moved { Moved family.old family.new }
@@ -121,7 +121,7 @@ impl<R: Wait + time::Clock, B: Clerkship + Drop> Kin<'_, '_, R, B> {
         self.mine.retain(|instance| instance.number() == newest || is_among(journals, *instance));
     }
 
-    /// Has journals join and leave. Tells whether the family is of the roster by now.
+    /// Adds and removes journals. Returns whether the family is of the roster by now.
     #[tactic(auto, using(crate::proofs::Grows::steps))]
     fn catch_up(&mut self, family: &mut Family<B>) -> bool
         ensures moved { Moved family.old family.new }

@@ -5,8 +5,8 @@ use lra_rolls::{Counts, Mark, is_near_end, least_pause};
 use std::sync::atomic::Ordering;
 
 impl<B: Drop> Journal<B> {
-    /// Has silent members asked as often as its entries let it, by how much it may have of each. Tells what that comes
-    /// to, where that is another pause than before.
+    /// Sets how often its silent members are asked, by its entries and how many it may have. Returns the mark that this
+    /// comes to, where it is another pause than before.
     pub fn spare(&self, limit: &Counts) -> Option<Mark> {
         let pause = least_pause(self.count_entries(), limit.entries);
         if self.stall.least_pause.swap(pause, Ordering::SeqCst) == pause {
@@ -19,8 +19,8 @@ impl<B: Drop> Journal<B> {
         }
     }
 
-    /// Has nothing new begun in it once it is near its end, by how much it may have of each. Tells of its bytes, where
-    /// they have just come to that.
+    /// Closes it to new work once it is near its end, by how much it may have of each. Returns the mark of its bytes,
+    /// where they have just come to that.
     pub fn reserve(&self, limit: &Counts) -> Option<Mark> {
         let is_by_entries = is_near_end(self.count_entries(), limit.entries);
         if !is_by_entries && !is_near_end(self.bytes(), limit.bytes) {

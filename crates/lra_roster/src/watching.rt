@@ -62,8 +62,7 @@ impl<B: Drop> Watch<B> {
         self.retry <= now
     }
 
-    /// Has nothing more written to its journal, where that has as many bytes as it was judged by. Returns whether that
-    /// is so.
+    /// Ends writing to its journal, where that has as many bytes as it was judged by. Returns whether that is so.
     pub fn close(&self) -> bool {
         self.journal.file.close_at(self.bytes)
     }

@@ -27,7 +27,7 @@ pub enum Stage {
     Ended,
 }
 
-/// Has the request answered that stands, and notes the answer's position.
+/// Answers the request that stands, and notes the answer's position.
 fn answer_standing<A: Responder, K: Clock>(
     alloc: Global,
     routes: &Routes,
@@ -47,7 +47,7 @@ fn answer_standing<A: Responder, K: Clock>(
     *positions = positions.with_answer(answered);
 }
 
-/// Has the next request answered, where it is whole and few replies wait, of few journals. Tells otherwise where the
+/// Answers the next request, where it is whole and few replies wait, of few journals. Tells otherwise where the
 /// connection stands.
 fn answer_next<A: Responder, K: Clock>(
     alloc: Global,
@@ -79,7 +79,7 @@ fn answer_next<A: Responder, K: Clock>(
     }
 }
 
-/// Has the requests answered that are whole, a few at most, and tells where the connection stands then. Where memory is
+/// Answers the requests that are whole, a few at most, and tells where the connection stands then. Where memory is
 /// refused, those stand answered that were.
 pub(crate) fn answer_some<A: Responder, K: Clock>(
     alloc: Global,

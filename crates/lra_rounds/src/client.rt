@@ -104,9 +104,8 @@ impl<S, G: SyncGroup, P: WhichBase> Client<S, G, P> {
         self.connection.room()
     }
 
-    /// Has the requests answered that are whole, a few at most and none while many replies wait, and notes the
-    /// positions
-    /// of their answers: the replies wait for these. Where memory is refused, those stand answered that were.
+    /// Answers the requests that are whole, a few at most and none while many replies wait, and notes the positions of
+    /// their answers: the replies wait for these. Where memory is refused, those stand answered that were.
     #[tactic(auto, using(crate::proofs::Noted::noted_answered))]
     pub fn answer<A: Responder, K: Clock>(
         &mut self,

@@ -337,7 +337,7 @@ impl<G: SyncGroup, P: WhichBase> Clients<G, P> {
         }
     }
 
-    /// Until when the turn lasts that is noted of one who may be there.
+    /// Returns until when the turn lasts that is noted of a client.
     fn end_of(&self, key: Option<u64>) -> Option<u64> {
         let seat = self.seats.get(key? as usize)?;
         match seat.noted() {

@@ -78,11 +78,11 @@ struct Watch<'a, R> {
     turn: usize,
     /// Until when replies wait to leave, once the thread is to end.
     until: Option<u64>,
-    /// From when on whoever answers rests again.
+    /// Moment from which on the responder rests again.
     rest_from: u64,
 }
 
-/// Has whoever answers rest, where that is due after a quiet round.
+/// Lets the responder rest, where that is due after a quiet round.
 fn rest<A: Responder>(responder: &mut A, rest_from: &mut u64, now: u64)
     ensures { MayRest A.rests (A.sight responder.old) (A.sight responder.new) }
 {
@@ -163,7 +163,7 @@ impl<'a, R: Wait + time::Clock, G: SyncGroup> Rounds<'a, R, G> {
         Duration::from_millis(left)
     }
 
-    /// Notes whose streams may be ready, ends one that is idle where that is asked, and takes in those who have come.
+    /// Notes whose streams may be ready, ends one that is idle where that is asked, and admits new connections.
     fn take_in<P: WhichBase>(
         &self,
         watch: &Watch<'a, R>,
@@ -345,9 +345,8 @@ impl<'a, R: Wait + time::Clock, G: SyncGroup> Rounds<'a, R, G> {
     }
 
     /// Answers the connections that come in, by one responder and one clock, until a journal has failed or no more
-    /// connections come. Whatever
-    /// happens to one connection, the others are answered. After a round in which nothing came whoever answers rests,
-    /// four times a second at most.
+    /// connections come. Whatever happens to one connection, the others are answered. After a round in which nothing
+    /// came the responder rests, four times a second at most.
     pub fn run<A: Responder, K: Clock>(&self, responder: &mut A, clock: &mut K) -> RoundsEnd
         ensures answered { AnsweredWithRests A.base_of A.responds A.rests K.tells (A.sight responder.old) clock.old
             (A.sight responder.new) clock.new }

@@ -1,4 +1,4 @@
--- Whoever answers, asked what isn't a join outside the rules.
+-- A responder that isn't asked for joins outside the rules.
 use Rattle.std.specs.Prelude.{◌≡◌, ◌⊎◌, ℕ, false, List, None}
 use Rattle.lra_wire.specs.Request.{Request}
 use Rattle.lra_commands.specs.declared.refusal.Refusal.{Refusal}
@@ -7,7 +7,7 @@ use Rattle.lra_front.specs.declared.answer.Answer.TheVariants as answer
 use Rattle.lra_steps.specs.declared.responder.Answered.{Answered}
 use Rattle.lra_ruled.specs.Ruling.{is_outside, IsRefusedBy}
 
--- what there is to know of who answers, and the rules
+-- state of the responder, and the rules
 pub record Served (S : Type 0) : Type 0 where
   pub inner : S
   pub rules : List (List ℕ)
@@ -33,7 +33,7 @@ module _ {S : Type 0} (responds : S → ℕ → Request → Answered → S → T
     pub inner : Answers before moment request answered after.inner ⊎ Refuses before request answered after.inner
 
 module _ {S : Type 0} (rests : S → S → Type 0) where
-  -- what a rest does: that of who answers
+  -- what a rest does: that of the responder
   pub record Rests (before after : Served S) : Type 0 where
     pub rules : after.rules ≡ before.rules
     pub inner : rests before.inner after.inner

@@ -52,7 +52,7 @@ fn refusal_of(
 }
 
 impl<'r, A> Ruled<'r, A> {
-    /// One who answers, where members may be where these rules let them.
+    /// Adds the rules that say where members may be to a responder.
     pub fn new(inner: A, rules: &'r Rules) -> Ruled<'r, A>
         ensures inner { result.inner ≡ inner }
         ensures rules { result.rules.now ≡ rules.now }

@@ -148,7 +148,7 @@ impl<V: Serving, R: Wait> Player<'_, V, R> {
         self.seen() == seen
     }
 
-    /// Has a member join.
+    /// Joins a member.
     fn join(&mut self, moment: u64, action: u64, addresses: &str) -> Option<()> {
         let uris = uris(self.alloc, addresses)?;
         let order = Order::Join {

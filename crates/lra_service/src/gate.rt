@@ -16,10 +16,10 @@ use std::time::{Clock, Duration, Instant};
 /// Number of seconds that what is under way has, once the service is to end.
 const PARTING: u64 = 10;
 
-/// Lets one who carries make turns as long as someone answers. Once the service is to end, nothing is begun in them any
-/// more, and they are made until nothing is under way, 10 s after at most, unless the disk has failed. Where memory is
-/// refused it pauses, for longer each time in a row; once the pause is the longest, the journal's callbacks are noted
-/// to stand still, until a turn goes well.
+/// Gate of a callback worker: it lets turns be made as long as a connection worker is left. Once the service is to end,
+/// nothing is begun in them any more, and they are made until nothing is under way, 10 s after at most, unless the disk
+/// has failed. Where memory is refused it pauses, for longer each time in a row; once the pause is the longest, the
+/// journal's callbacks are noted to stand still, until a turn goes well.
 #[derive(Drop)]
 pub struct CarrierGate<'a, R, G: SyncGroup, J> {
     rt: &'a R,

@@ -69,11 +69,11 @@ pub(crate) struct Shift<'a, R, H> {
     working: AtomicU64,
     /// Number of callback workers that haven't ended.
     carrying: AtomicU64,
-    /// The places of those who carry.
+    /// Places of the callback workers.
     stalls: Vec<Stall>,
     /// Bells that wake them, once something may be due.
     bells: Arc<Vec<Waker>>,
-    /// State that those who carry share.
+    /// State that the callback workers share.
     calling: Calling,
     /// Where operators come in, if any do.
     watchpost: Option<&'a Watchpost>,
@@ -88,7 +88,7 @@ pub(crate) struct Shift<'a, R, H> {
 }
 
 impl<'a, R: Wait, H> Shift<'a, R, H> {
-    /// One that begins, with those who answer and those who carry that wait with these.
+    /// State of a service that begins, with the polls of its connection workers and callback workers.
     pub(crate) fn new(
         rt: &'a R,
         alloc: Global,
@@ -180,7 +180,7 @@ impl<R, H> Shift<'_, R, H> {
         )
     }
 
-    /// Takes down that one who answered connections has ended: with the last one all end.
+    /// Notes that a connection worker has ended: with the last one all threads end.
     fn leave(&self) {
         if self.answering.fetch_sub(1, Ordering::SeqCst) <= 1 {
             self.ending.finish();
@@ -195,7 +195,7 @@ impl<R, H> Shift<'_, R, H> {
 }
 
 impl<R: Wait, H> Shift<'_, R, H> {
-    /// Has the group find the journal by its instance from now on.
+    /// Lists the journal in the group under its instance.
     pub(crate) fn add(
         &self,
         instance: Instance,
@@ -210,21 +210,21 @@ impl<R: Wait, H> Shift<'_, R, H> {
         matches!(self.journals.keep_all(self.rt), Ok(true))
     }
 
-    /// Hands on the connections that come, until there are to be no others. Then those who carry look whether they are
-    /// to end.
+    /// Hands on the connections that come, until there are to be no others. Then it wakes the callback workers, which
+    /// look whether they are to end.
     pub(crate) fn admit(&self) {
         self.door.open();
         ring(self.bells.as_slice());
     }
 
-    /// Takes the poll of the one who carries there.
+    /// Takes the poll of the callback worker of a place.
     fn take_poll(&self, place: u32) -> Option<(&Stall, Poll)> {
         let stall = self.stalls.get(place as usize)?;
         let poll = stall.poll.lock(self.rt).take()?;
         Some((stall, poll))
     }
 
-    /// All that answered and carried have ended: so do those who look names up, and who waits for connections.
+    /// Ends the resolver and the acceptor: all connection and callback workers have ended.
     fn end(&self) {
         self.calling.names.close(self.rt);
         self.ending.finish();
@@ -298,7 +298,7 @@ impl<R: Wait + Clock, H: Journalist> Shift<'_, R, H> {
         }
     }
 
-    /// Has what the file takes told of, as that of a journal.
+    /// Begins to log what the file takes, as that of a journal.
     fn follow(&self, journal: Instance) {
         let taken = self.end.lock(self.rt).take();
         if let Some(FileEnd { file, at }) = taken {
@@ -326,7 +326,7 @@ impl<R: Wait + Clock, H: Journalist> Shift<'_, R, H> {
         }
     }
 
-    /// Lets those who stand work, once it was said that the service serves.
+    /// Lets the threads that wait at the latch work, once it was said that the service serves.
     pub(crate) fn begin(&self, journal: Instance) {
         self.herald.note(&Event::Serving {
             journals: 1,
@@ -345,7 +345,7 @@ impl<R: Wait + Clock, H: Journalist> Shift<'_, R, H> {
 }
 
 impl<R: Wait, H: Herald + Journalist> Shift<'_, R, H> {
-    /// Tells why one who carried has ended, unless the disk has failed: then the program ends, and says so. With the
+    /// Tells why a callback worker has ended, unless the disk has failed: then the program ends, and says so. With the
     /// last one the journal's callbacks stand still.
     fn tell_end(&self, end: WorkerEnd, journal: Instance) {
         let is_last = self.carrying.fetch_sub(1, Ordering::SeqCst) <= 1;

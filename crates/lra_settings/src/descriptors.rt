@@ -13,8 +13,8 @@ const KEPT_BACK: u64 = 64;
 const LEAST: u64 = 2;
 
 /// Returns how many descriptors a file's service of so many workers takes beside connections and callbacks: for each
-/// worker, and for each that carries callbacks, two to wait with, and one for what a worker's share of the connections
-/// is rounded up; and for the journal its file, and it once more for the log.
+/// connection worker and each callback worker two to wait with, and one for what a worker's share of the connections is
+/// rounded up; and for the journal its file, and it once more for the log.
 pub fn taken_by_file(workers: u32) -> u64
     ensures { result ≡ taken_by_file workers }
 {
@@ -22,7 +22,7 @@ pub fn taken_by_file(workers: u32) -> u64
 }
 
 /// Returns how many descriptors a folder's service of so many workers and journals takes so, the next journal among
-/// them. There each journal has one that carries its callbacks.
+/// them. There each journal has a callback worker.
 pub fn taken_by_folder(workers: u32, journals: u32) -> u64
     ensures { result ≡ taken_by_folder workers journals }
 {

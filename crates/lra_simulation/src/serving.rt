@@ -102,7 +102,7 @@ impl World {
         self.tell(site, &Command::Join { action, uris })
     }
 
-    /// Has a site's coordinator do a command.
+    /// Gives a site's coordinator a command.
     fn tell(&mut self, place: usize, command: &Command<'_>) -> Result<Result<Told, Refusal>>
         requires { is_suited command.now ≡ true }
     {

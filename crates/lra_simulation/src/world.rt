@@ -98,13 +98,13 @@ impl World {
         Ok(())
     }
 
-    /// Has a site crash in a while.
+    /// Plans a crash of a site in a while.
     pub fn plan_crash(&mut self, site: usize) -> Result<()> {
         let span = self.span();
         self.after((span / 24, span / 8), Event::Crash { site })
     }
 
-    /// Has something happen after a time between two.
+    /// Plans that something happens after a time between two.
     pub fn after(&mut self, (least, most): (u64, u64), event: Event) -> Result<()> {
         let time = self.chance.between(least, most);
         self.calendar.put(self.now.saturating_add(time), event)
@@ -131,7 +131,7 @@ impl World {
         self.after((PATIENCE, PATIENCE), Event::GivenUp(ask))
     }
 
-    /// Has all leave a site that may, and plans its next sync and its next work.
+    /// Lets all leave a site that may, and plans its next sync and its next work.
     pub fn settle(&mut self, place: usize) -> Result<()> {
         let site = self.sites.get_mut(place).context("there is no such site")?;
         let life = site.life;

@@ -1,4 +1,4 @@
--- Connections whose requests are answered by whoever answers, and streams that come in pieces to a counter.
+-- Connections whose requests a responder answers, and streams that come in pieces to a counter.
 use Rattle.std.specs.Prelude.{◌≡◌, ℕ, Bool, List, [], ◌∷◌, ◌++◌, map, Option, Some, None, Result}
 use Rattle.std.specs.declared.alloc.AllocError.{AllocError}
 use Rattle.lra_wire.specs.Request.{Request}
@@ -53,7 +53,7 @@ module _ {S K : Type 0} (responds : S → ℕ → Request → Answered → S →
 
 module _ {S K : Type 0} (responds : S → ℕ → Request → Answered → S → Type 0) (rests : S → S → Type 0)
     (tells : K → ℕ → K → Type 0) where
-  -- one turn after another as in a chain, with rests between them: there is a turn, or none where whoever answers rests
+  -- one turn after another as in a chain, with rests between them: there is a turn, or none where the responder rests
   abbrev pub Course : S → K → List (Option Turn) → S → K → Type 0
   Course v k [] w l = (w ≡ v) × (l ≡ k)
   Course v k (Some turn ∷ xs) w l =

@@ -12,8 +12,8 @@ use lra_ids::Instance;
 use lra_model::Memory;
 use std::alloc::Global;
 
-/// Has the request that stands answered, at the moment that the clock tells, and returns the answer. Where memory for
-/// the reply is refused, what was asked for stands all the same, and the connection ends.
+/// Answers the request that stands, at the moment that the clock tells, and returns the answer. Where memory for the
+/// reply is refused, what was asked for stands all the same, and the connection ends.
 pub fn answer_request<A: Responder, K: Clock>(
     alloc: Global,
     routes: &Routes,
@@ -157,8 +157,8 @@ fn serve_new<A: Responder, K: Clock>(
     end
 }
 
-/// Answers a stream that comes in these pieces by whoever answers, and appends the replies: each request of it once and
-/// in order, at a moment that the clock tells, however the bytes are cut. Where memory is refused otherwise than for a
+/// Answers a stream that comes in these pieces by a responder, and appends the replies: each request of it once and in
+/// order, at a moment that the clock tells, however the bytes are cut. Where memory is refused otherwise than for a
 /// reply, that is told.
 pub fn answer_pieces<A: Responder, K: Clock>(
     alloc: Global,

@@ -1,4 +1,4 @@
-//! One who answers operators.
+//! Server of the operators' port.
 
 use crate::pace::Pace;
 use crate::post::Watchpost;
@@ -52,7 +52,7 @@ fn turned_code(reply: &[u8]) -> Option<u16> {
     }
 }
 
-/// Those who ask now, and what answers them.
+/// Connections of operators that are open, and what answers them.
 #[derive(Drop)]
 struct Desk {
     alloc: Global,
@@ -99,8 +99,8 @@ fn has_passed<R: Clock>(rt: &R, end: Instant) -> bool {
 }
 
 impl Desk {
-    /// Gives one who has come a place. Where all are taken, who came first gives way: no one who is slow, or silent,
-    /// keeps others out.
+    /// Gives a new connection a place. Where all are taken, the oldest gives way: no slow or silent client keeps others
+    /// out.
     fn seat<R: Clock>(&mut self, rt: &R, stream: TcpStream) {
         let Ok(end) = seconds_on(rt, VISIT) else {
             return;
@@ -114,7 +114,7 @@ impl Desk {
         let _ = self.visitors.push(Visitor::new(self.alloc, stream, end));
     }
 
-    /// Gives those a place who have come, a few at most.
+    /// Gives new connections a place, a few at most.
     fn admit<R: Clock>(&mut self, rt: &R, post: &Watchpost) {
         for count in 0..AT_ONCE {
             match post.listener.accept() {
@@ -240,9 +240,8 @@ impl Desk {
     }
 }
 
-/// Answers those who come to the port, by an overview of the service, until that has ended. Each has 10 s for the
-/// visit. Those who are slow hold up no one: each is read and written as far as can be at once. Who may not ask is told
-/// of.
+/// Answers the connections of the port, by an overview of the service, until that has ended. Each has 10 s. Slow ones
+/// hold up no other: each is read and written as far as can be at once. Requests that may not be made are told of.
 pub fn attend<R: Wait + Clock, O: Overview, E: Ends, T: Turned>(
     rt: &R,
     alloc: Global,

@@ -16,7 +16,7 @@ struct Begun {
     since: Instant,
 }
 
-/// A carriage that carries errands as another one does, and tallies what comes of them.
+/// A carriage over another one, which tallies the outcomes.
 #[derive(Drop)]
 pub struct CountedCarriage<'a, C, R> {
     inner: C,
@@ -26,7 +26,7 @@ pub struct CountedCarriage<'a, C, R> {
 }
 
 impl<'a, C, R> CountedCarriage<'a, C, R> {
-    /// One that carries as another does, with which nothing is under way yet.
+    /// A carriage over another one, with which nothing is under way yet.
     pub fn new(
         alloc: Global,
         inner: C,
@@ -43,7 +43,7 @@ impl<'a, C, R> CountedCarriage<'a, C, R> {
         }
     }
 
-    /// Returns the carriage that carries.
+    /// Returns the inner carriage.
     pub fn into_inner(self) -> C
         ensures { result ≡ self.entry.inner }
     {

@@ -1,4 +1,4 @@
-//! The operators' port over sockets: its listener, who answers there, what is tallied, and what the system tells of the
+//! The operators' port over sockets: its listener, its server, what is tallied, and what the system tells of the
 //! process.
 #![tactic(auto)]
 

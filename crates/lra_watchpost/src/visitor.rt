@@ -1,4 +1,4 @@
-//! One who asks at the port.
+//! A connection of an operator.
 
 use lra_operators::is_enough;
 use std::alloc::Global;
@@ -34,7 +34,7 @@ pub(crate) enum Step {
     Gone,
 }
 
-/// One who asks, with what came and what goes.
+/// A connection of an operator, with what came and what goes.
 #[derive(Drop)]
 pub(crate) struct Visitor {
     stream: TcpStream,
@@ -59,7 +59,7 @@ fn step_of(moved: std::io::Result<usize>) -> Step {
 }
 
 impl Visitor {
-    /// One who has come.
+    /// A connection that has just come.
     pub(crate) fn new(alloc: Global, stream: TcpStream, end: Instant) -> Visitor {
         Visitor {
             stream,

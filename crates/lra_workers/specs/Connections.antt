@@ -1,4 +1,4 @@
--- What one who answers connections does at an office.
+-- What a connection worker does at an office.
 use Rattle.std.specs.Prelude.{◌≡◌, ℕ, zero, suc, ◌<◌, List, Option, Result}
 use Rattle.lra_ticket.specs.declared.kept.Kept.{Ghosts}
 use Rattle.lra_commands.specs.declared.command.Told.{Told}

@@ -315,7 +315,7 @@ fn begin_next<V: Serving, R: Wait, C: Carriage, G: Gate, K: Clock>(
     }
 }
 
-/// Has all that is under way carried, until that moment at most, and records what came of it.
+/// Carries all that is under way, until that moment at most, and records what came of it.
 fn carry_on<V: Serving, R: Wait, C: Carriage, G: Gate, K: Clock>(
     rt: &R,
     office: &OfficeOf<V>,

@@ -1,4 +1,4 @@
--- Whoever answers keeps what the URIs begin with, whatever is let in.
+-- The responder keeps what its URIs begin with, whatever is let in.
 use Rattle.std.specs.Prelude.{◌≡◌, ℕ, List, Option, Some, None, MatchOption}
 use Rattle.std.proofs.Common.{ap}
 use Rattle.lra_wire.specs.Request.{Request}

@@ -19,6 +19,6 @@ module _ {S K : Type 0} (base_of : S → List ℕ) (responds : S → ℕ → Req
   abbrev pub AnsweredSome : S → K → S → K → Type 0
   AnsweredSome v k w l = (n : ℕ) × AnsweredIn n v k w l
 
--- whoever answers rests, or nothing is done
+-- the responder rests, or nothing is done
 abbrev pub MayRest : {S : Type 0} → (S → S → Type 0) → S → S → Type 0
 MayRest rests v w = rests v w ⊎ (w ≡ v)

@@ -230,7 +230,7 @@ impl Desk<'_> {
         self.put_answer(answer)
     }
 
-    /// Has a member join. The addresses are read again where memory was refused.
+    /// Joins a member. The addresses are read again where memory was refused.
     fn join(&mut self, by: u32, moment: u64, action: u64, addresses: &str) -> Option<()> {
         let uris = uris(self.alloc, addresses)?;
         let order = Order::Join {

@@ -59,7 +59,7 @@ pub(super) fn member(alloc: Global, addresses: &str) -> Option<Uris> {
     Some(uris)
 }
 
-/// Has a member join an action, which is closed.
+/// Joins a member to an action, and closes that.
 fn close(coordinator: &mut Coordinator, member: &Uris) -> Result<(), Refusal> {
     coordinator.enrol(0)?;
     coordinator.start(1, 0, None, 0)?;
