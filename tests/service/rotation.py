@@ -33,6 +33,8 @@ SOME_ALLOCATIONS = 8
 ANSWERS = {200, 201, 202, 503}
 # The steps by which the next journal comes, and those by which one is archived: a call, and its file.
 NEXT_STEPS = (("write", "/newest.next$"), ("rename", "/newest$"), ("openat", "[0-9a-f].next$"), ("rename", ".journal$"))
+# Those that a sync of the folder follows.
+SYNCED_STEPS = (NEXT_STEPS[0], NEXT_STEPS[3])
 ARCHIVE_STEPS = (
     *(("mkdir", "/ended$"), ("link", "/ended/.*.next$"), ("link", "/ended/.*.journal$")),
     ("unlink", "/journals/[0-9a-f]*.journal$"),
@@ -337,6 +339,24 @@ def fail_next(setting, step):
         return tries
 
 
+def fail_sync(setting, step):
+    """Has the sync of the folder fail that follows a step for the next journal: what the step did could be lost, so the
+    service ends, and what was answered is there afterwards."""
+    with Stubborn(setting, step) as service:
+        wait_until("the next journal is ready", lambda: any(it.endswith(".next") for it in os.listdir(service.folder)))
+        service.begin_failing()
+        actions = service.first(7)
+        wait_until("that the step fails", service.denied)
+        service.deny(denial("fsync", "/journals$"))
+        equal("the status", service.process.wait(PATIENCE), 2)
+        equal("what is told last", service.told().splitlines()[-1], f"lra: cannot write {service.folder}")
+        service.allow()
+    service.words = service.plain
+    with service:
+        check_all(service, actions)
+        return 1
+
+
 def fail_archiving(setting, step):
     """Has a step fail by which a journal is archived: nothing is lost, and it is archived once that can be done."""
     with Stubborn(setting, step) as service, service.client() as client:
@@ -373,6 +393,10 @@ def try_steps(setting, one, steps):
 
 def test_a_step_for_the_next_journal_that_fails_is_repeated(setting):
     return try_steps(setting, fail_next, NEXT_STEPS)
+
+
+def test_a_sync_of_the_folder_that_fails_ends_the_service(setting):
+    return try_steps(setting, fail_sync, SYNCED_STEPS)
 
 
 def test_a_step_of_archiving_that_fails_is_repeated(setting):

@@ -28,6 +28,8 @@ ROOM = 1
 # How many seconds lie between two newcomers at least: idle times are kept in milliseconds, and one of a millisecond
 # counts as another of it.
 APART = 0.005
+# How many seconds the system has no descriptor for a callback: it is tried again each second.
+LACKING = 2.5
 # The line that tells of lowered limits.
 LOWERED = re.compile(r"at most (\d+) connections and (\d+) callbacks at once: the limit of open files is 128\n")
 
@@ -280,6 +282,25 @@ def test_who_has_been_idle_longest_makes_room_where_descriptors_are_few(setting)
         check("the last are ended", all(answered(stream) < ROOM for stream in streams[-connections // 2 :]))
         check("none of the first is ended", until_closed(streams[:4]) < 4)
         return f"{connections} connections"
+
+
+def test_a_member_is_not_silent_where_the_system_has_no_descriptor_for_its_callback(setting):
+    """It is asked again until there is one, and nothing is recorded of it meanwhile."""
+    with Participant() as member, Written(setting) as service, service.client() as client:
+        action = client.start()
+        client.join(action, **member.addresses())
+        pid = service.process.pid
+        used = len(os.listdir(f"/proc/{pid}/fd"))
+        before = resource.prlimit(pid, resource.RLIMIT_NOFILE)
+        resource.prlimit(pid, resource.RLIMIT_NOFILE, (used, before[1]))
+        equal("the close", client.call("PUT", f"/lra-coordinator/{id_of(action)}/close").code, 202)
+        time.sleep(LACKING)
+        equal("what was asked", member.asked(), [])
+        entries = journal.read(service.journal).decode().splitlines()
+        equal("the asks", len([line for line in entries if " ask " in line]), 1)
+        equal("what came of them", [line for line in entries if " reply " in line], [])
+        resource.prlimit(pid, resource.RLIMIT_NOFILE, before)
+        wait_until("the end", lambda: client.status(action) == "Closed")
 
 
 def test_a_newcomer_has_room_where_the_system_has_no_descriptor_any_more(setting):

@@ -9,7 +9,7 @@ ghost use Rattle.lra_rules.specs.Rules.{let_address};
 ghost use Rattle.lra_courier.specs.Sockets.{socket_text};
 ghost use Rattle.lra_callbacks.specs.Outcomes.{MayCome};
 ghost use Rattle.lra_callbacks.specs.inner.Attempts.{outcome_of};
-ghost use Rattle.lra_callbacks.specs.inner.Ends.{Replies, limit_of};
+ghost use Rattle.lra_callbacks.specs.inner.Ends.{Replies, has_no_socket, limit_of};
 
 use crate::attempt::{Attempt, Leave};
 use crate::hosts::Target;
@@ -175,6 +175,20 @@ impl<G: SyncGroup> Call<G> {
             .is_ok();
         self.stream = Some(stream);
         is_watched
+    }
+
+    /// Returns whether the system had no socket for it: too many files are open, say.
+    pub(crate) fn lacks_socket(&self) -> bool
+        ensures { result ≡ has_no_socket self.now.end }
+    {
+        matches!(self.end, End::NotSent)
+    }
+
+    /// Marks all addresses of its host as ones that weren't tried.
+    pub(crate) fn start_over(&mut self)
+        ensures { self.new.attempt.errand ≡ self.old.attempt.errand }
+    {
+        self.tried = 0;
     }
 
     /// Ends its socket, and tells whether it had one.

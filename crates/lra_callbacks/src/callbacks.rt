@@ -33,6 +33,9 @@ use std::time;
 /// Number of milliseconds that the office is left alone in any case.
 const PAUSE_MS: u64 = 2;
 
+/// Number of milliseconds until a socket is asked for again that the system didn't have.
+const SOCKET_PAUSE_MS: u64 = 1_000;
+
 /// Callbacks to members, many at once, of one journal. The request of each is made once that journal is durable up to
 /// the position that was given with the errand; it waits while as many go to its host, or in all, as may, and while its
 /// member is spared, since it was silent. A contract sees which errand is under way at each place. It has to be ended,
@@ -237,7 +240,7 @@ impl<'a, R: Wait + Net + time::Clock, G: SyncGroup> Callbacks<'a, R, G> {
         let now = self.traffic.moment(self.rt);
         let is_held = call.is_kept(self.rt, self.group, self.instance)
             && if is_given_up {
-                self.sparing.holds_for_good(key)
+                self.sparing.holds_until(key, u64::MAX)
             } else {
                 self.sparing.holds(key, errand, now)
             };
@@ -369,10 +372,39 @@ impl<'a, R: Wait + Net + time::Clock, G: SyncGroup> Callbacks<'a, R, G> {
             None => {
                 call.hang_up();
                 self.traffic.close(self.rt, self.quota, key, call.host());
-                self.traffic.end(key);
+                self.end_unconnected(key);
                 true
             }
         }
+    }
+
+    /// Ends one that isn't connected, unless the system had no socket for it.
+    fn end_unconnected(&mut self, key: usize)
+        ensures { self.new ≡ self.old }
+    {
+        if !self.waits_for_socket(key) {
+            self.traffic.end(key);
+        }
+    }
+
+    /// Puts one off that isn't connected since the system had no socket for it: that says nothing of its member.
+    /// Returns whether it was put off.
+    fn waits_for_socket(&mut self, key: usize) -> bool
+        ensures { self.new ≡ self.old }
+    {
+        let Some(call) = self.calls.get_mut(key) else {
+            return false;
+        };
+        if !call.lacks_socket() {
+            return false;
+        }
+        call.start_over();
+        let now = self.traffic.moment(self.rt);
+        let is_held = self
+            .sparing
+            .holds_until(key, now.saturating_add(SOCKET_PAUSE_MS));
+        self.tell();
+        is_held
     }
 
     /// Looks at one whose socket was reported. Once the disk has failed nothing goes to any member, also of what had

@@ -100,9 +100,10 @@ impl<'a> Sparing<'a> {
         }
     }
 
-    /// Holds a callback back as long as the service runs. Returns whether it does: where memory is refused it doesn't.
-    pub(crate) fn holds_for_good(&mut self, key: usize) -> bool {
-        self.waiting.insert((u64::MAX, key)).is_ok()
+    /// Holds a callback back until a moment, of which the greatest never comes. Returns whether it does: where memory
+    /// is refused it doesn't.
+    pub(crate) fn holds_until(&mut self, key: usize, until: u64) -> bool {
+        self.waiting.insert((until, key)).is_ok()
     }
 
     /// The moment at which the first waits no longer.

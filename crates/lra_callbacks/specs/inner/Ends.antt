@@ -1,15 +1,21 @@
 -- What is told of a callback once it has ended, by its socket and by what was carried.
-use Rattle.std.specs.Prelude.{◌≡◌, ℕ, Bool, if◌then◌else◌, Option, Some, None, IfSome}
+use Rattle.std.specs.Prelude.{◌≡◌, ℕ, Bool, true, false, if◌then◌else◌, Option, Some, None, IfSome}
 use Rattle.lra_courier.specs.Codes.{IsCoded}
 use Rattle.lra_outcomes.specs.declared.reply.Reply.{Reply}
 use Rattle.lra_callbacks.specs.declared.attempt.Flight.{Flight}
 use Rattle.lra_callbacks.specs.declared.replies.End.{End}
+use Rattle.lra_callbacks.specs.declared.replies.End.TheVariants as end
 use Rattle.lra_callbacks.specs.declared.share.Patience.{Patience}
 use Rattle.lra_callbacks.specs.inner.Replies.{reply_of}
 
 -- which limit of time passes: that to connect until there is a connection, and then that for the whole reply
 abbrev pub limit_of : Bool → Patience → ℕ
 limit_of is_connected patience = if is_connected then patience.reply else patience.connect
+
+-- the system had no socket for a callback that would end so, which says nothing of its member
+abbrev pub has_no_socket : End → Bool
+has_no_socket end.NotSent = true
+has_no_socket _ = false
 
 -- what is told goes by what came of the bytes that were carried, and by the code of the response that they begin with
 abbrev pub Replies : End → Option Flight → Option Reply → Type 0
