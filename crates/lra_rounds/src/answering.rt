@@ -2,10 +2,11 @@
 
 ghost use Rattle.std.specs.Prelude.{◌≡◌, None, IsSome};
 ghost use Rattle.lra_rounds.specs.Answered.{AnswersOf};
+ghost use Rattle.lra_rounds.specs.inner.Dues as spec;
 ghost use Rattle.lra_rounds.specs.inner.Noting.{KeepsNoted};
 
 use crate::positions::Positions;
-use lra_front::{Clock, Routes};
+use lra_front::{Answer, Clock, Routes};
 use lra_model::Memory;
 use lra_steps::{Connection, Responder, Step, answer_request};
 use std::alloc::Global;
@@ -27,12 +28,33 @@ pub enum Stage {
     Ended,
 }
 
-/// Answers the request that stands, and notes the answer's position.
+/// Returns whether an answer, to a request with a body or without one, may have made something due for the callback
+/// workers: an ask, or a limit of time. A start without a body has no limit.
+fn may_be_due(answer: Answer, has_body: bool) -> bool
+    ensures { result ≡ spec.may_be_due answer has_body }
+{
+    match answer {
+        Answer::Started(_) => has_body,
+        Answer::Turned(_) | Answer::Renewed | Answer::Member(_) => true,
+        Answer::Found { .. } | Answer::Joined(_) | Answer::Left | Answer::Denied(_) => false,
+    }
+}
+
+/// Returns whether the request that stands has a body.
+fn has_body(connection: &Connection) -> bool {
+    match connection.request() {
+        Some(request) => !request.body.is_empty(),
+        None => false,
+    }
+}
+
+/// Answers the request that stands, and notes the answer's position, and whether it may have made something due.
 fn answer_standing<A: Responder, K: Clock>(
     alloc: Global,
     routes: &Routes,
     connection: &mut Connection,
     positions: &mut Positions,
+    is_due: &mut bool,
     responder: &mut A,
     clock: &mut K,
 )
@@ -43,7 +65,9 @@ fn answer_standing<A: Responder, K: Clock>(
         (A.sight responder.new) clock.new
         × KeepsNoted connection.old.turns connection.new.turns positions.old positions.new }
 {
+    let has_body = has_body(connection);
     let answered = answer_request(alloc, routes, connection, responder, clock);
+    *is_due |= may_be_due(answered.answer, has_body);
     *positions = positions.with_answer(answered);
 }
 
@@ -54,6 +78,7 @@ fn answer_next<A: Responder, K: Clock>(
     routes: &Routes,
     connection: &mut Connection,
     positions: &mut Positions,
+    is_due: &mut bool,
     responder: &mut A,
     clock: &mut K,
 ) -> Result<Option<Stage>, Memory>
@@ -69,11 +94,15 @@ fn answer_next<A: Responder, K: Clock>(
         Step::Wants => Ok(Some(Stage::Wants)),
         Step::Ended(_) => Ok(Some(Stage::Ended)),
         Step::Stands => {
-            answer_standing(alloc, routes, connection, positions, responder, clock);
+            answer_standing(
+                alloc, routes, connection, positions, is_due, responder, clock,
+            );
             Ok(None)
         }
         Step::Waits => {
-            answer_standing(alloc, routes, connection, positions, responder, clock);
+            answer_standing(
+                alloc, routes, connection, positions, is_due, responder, clock,
+            );
             Ok(None)
         }
     }
@@ -86,6 +115,7 @@ pub(crate) fn answer_some<A: Responder, K: Clock>(
     routes: &Routes,
     connection: &mut Connection,
     positions: &mut Positions,
+    is_due: &mut bool,
     responder: &mut A,
     clock: &mut K,
 ) -> Result<Stage, Memory>
@@ -95,7 +125,9 @@ pub(crate) fn answer_some<A: Responder, K: Clock>(
         × KeepsNoted connection.old.turns connection.new.turns positions.old positions.new }
 {
     for _turn in 0..MOST_REQUESTS {
-        if let Some(stage) = answer_next(alloc, routes, connection, positions, responder, clock)? {
+        if let Some(stage) = answer_next(
+            alloc, routes, connection, positions, is_due, responder, clock,
+        )? {
             return Ok(stage);
         }
     }

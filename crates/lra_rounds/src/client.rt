@@ -19,6 +19,7 @@ use mio::net::TcpStream;
 use std::alloc::{AllocError, Global};
 use std::io::{ErrorKind, Read, Write};
 use std::marker::PhantomData;
+use std::mem;
 use std::net::Shutdown;
 use std::sync::Wait;
 
@@ -76,6 +77,8 @@ pub struct Client<S, G: SyncGroup, P: WhichBase> {
     connection: Connection,
     /// Positions that have to be durable before a byte leaves of the replies that wait.
     positions: Positions,
+    /// An answer may have made something due for the callback workers, since that was asked last.
+    is_due: bool,
     of: PhantomData<(P, G)>,
     ghost here: { connection.base ≡ P.base },
     ghost noted: { ∥ AreNoted G.keeps positions connection.turns ∥₁ },
@@ -93,6 +96,7 @@ impl<S, G: SyncGroup, P: WhichBase> Client<S, G, P> {
             stream,
             connection: Connection::new(alloc, instance, base),
             positions: Positions::none(),
+            is_due: false,
             of: PhantomData,
         }
     }
@@ -124,9 +128,17 @@ impl<S, G: SyncGroup, P: WhichBase> Client<S, G, P> {
             routes,
             &mut self.connection,
             &mut self.positions,
+            &mut self.is_due,
             responder,
             clock,
         )
+    }
+
+    /// Returns whether an answer may have made something due for the callback workers, since that was asked last.
+    pub(crate) fn take_due(&mut self) -> bool
+        ensures same { (self.new.stream ≡ self.old.stream) × (self.new.connection ≡ self.old.connection) }
+    {
+        mem::replace(&mut self.is_due, false)
     }
 
     /// Returns whether all that may be handed out has been.

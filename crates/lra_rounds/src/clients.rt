@@ -40,6 +40,8 @@ pub(crate) struct Clients<G: SyncGroup, P: WhichBase> {
     again: VecDeque<usize>,
     /// The keys of those whose replies wait to leave. A key that names nobody any more is passed over.
     waiting: Vec<usize>,
+    /// An answer may have made something due for the callback workers, since that was asked last.
+    is_due: bool,
 }
 
 impl<G: SyncGroup, P: WhichBase> Clients<G, P> {
@@ -53,6 +55,7 @@ impl<G: SyncGroup, P: WhichBase> Clients<G, P> {
             ready: Vec::new(alloc),
             again: VecDeque::new(alloc),
             waiting: Vec::new(alloc),
+            is_due: false,
         }
     }
 
@@ -220,7 +223,9 @@ impl<G: SyncGroup, P: WhichBase> Clients<G, P> {
         let Some(seat) = self.seats.get_mut(key) else {
             return;
         };
-        match seat.serve(means, buffer, responder, clock) {
+        let served = seat.serve(means, buffer, responder, clock);
+        self.is_due |= seat.take_due();
+        match served {
             Ok(()) => self.place(key, now),
             Err(_) => self.end(key),
         }
@@ -251,6 +256,11 @@ impl<G: SyncGroup, P: WhichBase> Clients<G, P> {
             };
             self.serve_one(means, buffer, key, responder, clock, now);
         }
+    }
+
+    /// Returns whether an answer may have made something due for the callback workers, since that was asked last.
+    pub(crate) fn take_due(&mut self) -> bool {
+        mem::replace(&mut self.is_due, false)
     }
 
     /// Returns whether the replies of a client wait to leave, also where its stream takes nothing, or may be on their

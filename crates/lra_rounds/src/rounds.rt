@@ -58,7 +58,7 @@ pub struct Rounds<'a, R, G: SyncGroup> {
     alloc: Global,
     group: &'a G,
     arrivals: &'a Arrivals,
-    /// Those of whom one is woken once a journal has taken something.
+    /// Wakers of the callback workers: one is woken once something may be due.
     bells: &'a [Waker],
     /// Largest number of clients that there may be.
     most: usize,
@@ -74,7 +74,7 @@ struct Watch<'a, R> {
     moments: Moments<'a, R>,
     /// Number of rounds that replies have waited.
     rounds: u32,
-    /// Whose turn it is to be woken.
+    /// The callback worker whose turn it is to be woken.
     turn: usize,
     /// Until when replies wait to leave, once the thread is to end.
     until: Option<u64>,
@@ -139,7 +139,7 @@ impl<'a, R: Wait + time::Clock, G: SyncGroup> Rounds<'a, R, G> {
         })
     }
 
-    /// Wakes one of the others, each in its turn, where a journal has taken something since then.
+    /// Wakes a callback worker, each in its turn, where a journal has taken something since then.
     fn ring(&self, before: u64, turn: &mut usize) {
         let Some(bell) = self.bells.get(*turn) else {
             return;
@@ -249,7 +249,9 @@ impl<'a, R: Wait + time::Clock, G: SyncGroup> Rounds<'a, R, G> {
         let is_quiet = watch.events.is_empty() && !clients.has_ready();
         let before = self.group.appended(self.rt);
         clients.serve(means, watch.buffer.as_mut_slice(), responder, clock, now);
-        self.ring(before, &mut watch.turn);
+        if clients.take_due() {
+            self.ring(before, &mut watch.turn);
+        }
         self.hand_out(&mut watch.rounds, clients, is_quiet, now);
         clients.end_late(now);
         is_quiet

@@ -228,6 +228,11 @@ impl<G: SyncGroup, P: WhichBase> Seat<G, P> {
         Ok(())
     }
 
+    /// Returns whether an answer may have made something due for the callback workers, since that was asked last.
+    pub(crate) fn take_due(&mut self) -> bool {
+        self.client.take_due()
+    }
+
     /// Hands out what may leave, as often as it may in a round.
     pub(crate) fn hand_out<R: Wait>(&mut self, rt: &R, group: &G) -> Result<(), ClientFault> {
         self.is_waiting = false;

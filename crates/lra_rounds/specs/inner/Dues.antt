@@ -1,0 +1,14 @@
+-- When callback workers are woken.
+use Rattle.std.specs.Prelude.{Bool, true, false}
+use Rattle.lra_front.specs.declared.answer.Answer.{Answer}
+use Rattle.lra_front.specs.declared.answer.Answer.TheVariants as answer
+
+-- After an answer something may be due at once, an ask or a limit of time: an action ends, a member tells how it ended,
+-- a limit was renewed, or an action was begun by a body, which may have a limit (this project's choice: a worker that
+-- isn't woken looks within a second).
+abbrev pub may_be_due : Answer → Bool → Bool
+may_be_due (answer.Started action) has_body = has_body
+may_be_due (answer.Turned status) has_body = true
+may_be_due answer.Renewed has_body = true
+may_be_due (answer.Member status) has_body = true
+may_be_due _ has_body = false
