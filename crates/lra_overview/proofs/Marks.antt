@@ -12,7 +12,7 @@ use Rattle.lra_escape.specs.Escapes.{spelled, escaped}
 use Rattle.lra_overview.specs.declared.gather.MemberRow.{MemberRow}
 use Rattle.lra_overview.specs.declared.gather.Waiting.{Waiting}
 use Rattle.lra_overview.specs.declared.attempts.Line.{Line}
-use Rattle.lra_overview.specs.declared.html.Home.{Home}
+use Rattle.lra_overview.specs.declared.home_page.Home.{Home}
 use Rattle.lra_overview.specs.Pages.{begin, fields, cancel_form, cancel_at, give_up_form, give_up_at, told_form}
 use Rattle.lra_overview.specs.Pages.{wants_telling, give_up, waiting, full_table, home, line, action, reply, plain}
 use Rattle.lra_overview.specs.Pages.{no_rows}

@@ -17,12 +17,12 @@ use Rattle.lra_overview.specs.declared.shares.Share.{Share}
 use Rattle.lra_overview.specs.declared.attempts.Tried.{Tried}
 use Rattle.lra_overview.specs.declared.attempts.Line.{Line}
 use Rattle.lra_overview.specs.declared.overdue.Overdue.{Overdue}
-use Rattle.lra_overview.specs.declared.html.Home.{Home}
+use Rattle.lra_overview.specs.declared.home_page.Home.{Home}
 use Rattle.lra_overview.specs.declared.tree.Node.{Node}
 use Rattle.lra_overview.specs.declared.tree.NodeOf.{NodeOf}
 use Rattle.lra_overview.specs.declared.tree.NodeOf.TheVariants as node_of
 use Rattle.lra_escape.specs.Escapes.{escaped}
-use Rattle.lra_overview.specs.declared.html.TheConstants.{HEAD, LOOKS, TABLES, NIGHT}
+use Rattle.lra_overview.specs.declared.page_parts.TheConstants.{HEAD, LOOKS, TABLES, NIGHT}
 use Rattle.lra_overview.specs.Laying.{joined, id_of}
 use Rattle.lra_overview.specs.Pages.{begin, fields, cancel_form, cancel_at, cancel, give_up_at, told_form}
 use Rattle.lra_overview.specs.Pages.{wants_telling, give_up, share, awaited, awaited_member, age, want_now, want_in}

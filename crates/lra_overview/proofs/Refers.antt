@@ -15,7 +15,7 @@ use Rattle.lra_model.specs.declared.asks.AskKind.TheVariants as ask
 use Rattle.lra_model.specs.Names.{action_status_name, member_status_name, ask_kind_name}
 use Rattle.lra_ids.specs.Identifiers.{id_text, id_bytes}
 use Rattle.lra_escape.specs.Escapes.{spelled, escaped}
-use Rattle.lra_overview.specs.declared.html.TheConstants.{HEAD, LOOKS, TABLES, NIGHT, KEY}
+use Rattle.lra_overview.specs.declared.page_parts.TheConstants.{HEAD, LOOKS, TABLES, NIGHT, KEY}
 use Rattle.lra_overview.specs.Laying.{joined, has_id, id_of, span_count, span_unit, span}
 use Rattle.lra_overview.specs.Marks.{begins, references, goes_on, refers}
 

@@ -3,7 +3,7 @@ use Rattle.std.specs.Prelude.{◌≡◌, ℕ, ◌==◌, Bool, true, false, ◌&&
 use Rattle.std.specs.List.{list_any}
 use Rattle.lra_escape.specs.Escapes.{is_bare}
 use Rattle.lra_overview.specs.declared.attempts.Line.{Line}
-use Rattle.lra_overview.specs.declared.html.Home.{Home}
+use Rattle.lra_overview.specs.declared.home_page.Home.{Home}
 use Rattle.lra_overview.specs.declared.gather.Waiting.{Waiting}
 use Rattle.lra_overview.specs.declared.tree.Node.{Node}
 use Rattle.lra_overview.specs.Pages as pages

@@ -22,8 +22,8 @@ use Rattle.lra_overview.specs.declared.tree.Node.{Node}
 use Rattle.lra_overview.specs.declared.attempts.Tried.{Tried}
 use Rattle.lra_overview.specs.declared.attempts.Line.{Line}
 use Rattle.lra_overview.specs.declared.overdue.Overdue.{Overdue}
-use Rattle.lra_overview.specs.declared.html.Home.{Home}
-use Rattle.lra_overview.specs.declared.html.TheConstants.{HEAD, LOOKS, TABLES, NIGHT, KEY}
+use Rattle.lra_overview.specs.declared.home_page.Home.{Home}
+use Rattle.lra_overview.specs.declared.page_parts.TheConstants.{HEAD, LOOKS, TABLES, NIGHT, KEY}
 use Rattle.lra_overview.specs.Laying.{joined, id_of, span}
 use Rattle.lra_overview.specs.Pictures.{picture}
 

@@ -2,13 +2,14 @@
 //! lists and its pages.
 #![tactic(auto)]
 
+mod action_page;
 mod attempts;
 mod census;
 mod counts;
 mod faults;
 mod gather;
 mod health;
-mod html;
+mod home_page;
 mod laws;
 mod laying;
 mod metrics;
@@ -16,6 +17,7 @@ mod names;
 mod objects;
 mod overdue;
 mod overview;
+mod page_parts;
 mod pieces;
 mod shares;
 mod svg;
@@ -23,6 +25,7 @@ mod tree;
 mod unended;
 mod untold;
 
+pub use action_page::put_action_page;
 pub use attempts::{Line, Tried, lines_of, members_in};
 pub use census::Census;
 pub use counts::{Counts, Totals, count_all, grown};
@@ -31,7 +34,7 @@ pub use gather::{
     ActionRow, Listed, MemberRow, Shown, Waiting, all_waiting, list_actions, show_action, waits_for,
 };
 pub use health::{Answered, Probe, is_up, put_health};
-pub use html::{Forms, Home, put_action_page, put_home, put_plain_page};
+pub use home_page::{Home, put_home};
 pub use laws::{pages_keep_marks, pages_refer};
 pub use laying::{put, put_number};
 pub use metrics::{Kind, describe, put_metrics, put_parts, whole};
@@ -39,6 +42,7 @@ pub use names::Names;
 pub use objects::{put_action, put_actions, put_text};
 pub use overdue::{Overdue, Standing, standing_of};
 pub use overview::{Facts, Overview};
+pub use page_parts::{Forms, put_plain_page};
 pub use pieces::Piece;
 pub use shares::{Share, Shares};
 pub use tree::{Node, NodeOf, tree_of};

@@ -1,4 +1,0 @@
-use Rattle.lra_overview.proofs.html.begin.Goals as goal
-
-pub returns : goal.returns
-returns c = rw (← c.as_str.ensures) c.put_all.ensures

@@ -1,5 +1,0 @@
-use Rattle.lra_overview.proofs.Chains.{three}
-use Rattle.lra_overview.proofs.html.put_cancel_form.Goals as goal
-
-pub returns : goal.returns
-returns c = three _ _ _ _ _ _ _ _ c.in_ok-put_all.ensures c.in_ok-put_fields.ensures c.put_all-2.ensures

@@ -1,6 +1,0 @@
-use Rattle.lra_overview.proofs.Chains.{four}
-use Rattle.lra_overview.proofs.html.put_counts.Goals as goal
-
-pub returns : goal.returns
-returns c = four _ _ _ _ _ _ _ _ _ _ c.in_ok-put_all.ensures c.in_ok-put_shares.ensures c.in_ok-put_overdue.ensures
-    c.put_title.ensures

@@ -1,5 +1,0 @@
-use Rattle.lra_overview.proofs.Chains.{two}
-use Rattle.lra_overview.proofs.html.put_open_end.Goals as goal
-
-pub returns : goal.returns
-returns c = two _ _ _ _ _ _ c.in_ok-put_all.ensures c.put_awaited.ensures

@@ -1,8 +1,0 @@
-use Rattle.std.proofs.Common.{◌≡◌, ◌++◌, take}
-use Rattle.std.specs.List.{flat_map}
-use Rattle.lra_overview.specs.Pages as pages
-use Rattle.lra_overview.proofs.html.put_shares.Given as goal
-
--- what was added so far
-abbrev pub invariant-loop-share : goal.invariant-loop-share
-invariant-loop-share l = l.page.items ≡ l.initial.page.items ++ flat_map pages.share (take l.share-index l.shares)
