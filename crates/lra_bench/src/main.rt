@@ -9,7 +9,8 @@ use std::process::ExitCode;
 const USAGE: &str = "usage: lra_bench NAME
 
 front     the replies to one connection: standard input has a journal, an empty line, and the connection's bytes
-pieces    the same as front, by a connection as steps: before the journal stands a line with the sizes in which the bytes come";
+pieces    the same as front, by a connection as steps: before the journal stands a line with the sizes in \
+which the bytes come";
 
 /// The status where nothing has that name.
 const UNKNOWN: u8 = 2;

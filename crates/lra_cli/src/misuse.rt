@@ -158,7 +158,8 @@ pub(crate) fn misuse_line(alloc: Global, misuse: Misuse<'_>) -> Result<String, A
         Misuse::NoValue(word) => format!(in alloc; "lra: {word} has no value\n"),
         Misuse::State(word) => {
             format!(in alloc;
-                "lra: --state is Active, Closing, Closed, FailedToClose, Cancelling, Cancelled or FailedToCancel, not {word}\n"
+                "lra: --state is Active, Closing, Closed, FailedToClose, Cancelling, Cancelled or \
+                 FailedToCancel, not {word}\n"
             )
         }
         Misuse::Seconds(word) => {

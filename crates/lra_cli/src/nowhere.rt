@@ -16,7 +16,8 @@ fn is_unspecified(address: &str) -> bool {
 /// Returns the line that warns of identifiers that begin with an address that leads nowhere.
 fn nowhere_line(alloc: Global, address: &str) -> Result<String, AllocError> {
     format!(in alloc;
-        "lra: identifiers that begin with http://{address}/ lead nowhere: name by --base where clients reach this service\n"
+        "lra: identifiers that begin with http://{address}/ lead nowhere: name by --base \
+         where clients reach this service\n"
     )
 }
 

@@ -113,7 +113,8 @@ impl Operation {
             Operation::Close => "Closes an action, as a service does",
             Operation::Cancel => "Cancels an action, as a service does",
             Operation::GiveUp =>
-                "Makes a member's report that it has failed, on its behalf; or ends what a member that has ended is asked",
+                "Makes a member's report that it has failed, on its behalf; or ends \
+                 what a member that has ended is asked",
             Operation::Home => "Shows counts, and what hasn't ended or has a status",
             Operation::Tree => "Shows an action",
         }

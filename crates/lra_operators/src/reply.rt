@@ -9,8 +9,8 @@ use std::alloc::Global;
 use std::io::Write;
 
 /// Policy of a page: a browser may show it, and send its forms back here.
-const POLICY: &str =
-    "default-src 'none'; style-src 'unsafe-inline'; img-src data:; form-action 'self'; frame-ancestors 'none'; base-uri 'none'";
+const POLICY: &str = "default-src 'none'; style-src 'unsafe-inline'; img-src data:; \
+     form-action 'self'; frame-ancestors 'none'; base-uri 'none'";
 
 /// The kind of a reply's text.
 #[derive(Clone, Copy, PartialEq, Eq)]

@@ -98,7 +98,8 @@ impl Word {
                 "A name by which the service is called, with its port or without; any number of them [any name]"
             }
             Word::Members => {
-                "Where members may be: a host, .suffix, address or network, with a port or without; any number of them [anywhere]"
+                "Where members may be: a host, .suffix, address or network, with a port or without; \
+                 any number of them [anywhere]"
             }
             Word::Log =>
                 "Events from this level on go to standard error: error, warn, info or debug [none]",

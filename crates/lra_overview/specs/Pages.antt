@@ -211,7 +211,8 @@ waiting i token have_key w =
 abbrev pub full_table : ℕ → List ℕ → Bool → List Waiting → List ℕ
 full_table i token have_key rows =
     joined
-    (codes "<table><thead><tr><th>Action</th><th>Status</th><th>There</th><th>Waits for</th><th>Next ask</th><th></th></tr></thead><tbody>\n"
+    (joined (codes "<table><thead><tr><th>Action</th><th>Status</th><th>There</th>"
+    ∷ codes "<th>Waits for</th><th>Next ask</th><th></th></tr></thead><tbody>\n" ∷ [])
     ∷ flat_map (waiting i token have_key) rows
     ∷ codes "</tbody></table>\n"
     ∷ []
@@ -316,7 +317,8 @@ line i token have_key l =
 abbrev pub members : ℕ → List ℕ → Bool → List Line → List ℕ
 members i token have_key lines =
     joined
-    (codes "</div>\n<h2>Members</h2>\n<table><thead><tr><th>Member</th><th>Status</th><th>Next ask</th><th>Last reply</th><th></th></tr></thead><tbody>\n"
+    (joined (codes "</div>\n<h2>Members</h2>\n<table><thead><tr><th>Member</th><th>Status</th>"
+    ∷ codes "<th>Next ask</th><th>Last reply</th><th></th></tr></thead><tbody>\n" ∷ [])
     ∷ flat_map (line i token have_key) lines
     ∷ codes "</tbody></table>\n</main></body></html>\n"
     ∷ []

@@ -193,9 +193,12 @@ fn put_members(
 {
     names.put_all(
         page,
-        &[Piece::Own(
-            "</div>\n<h2>Members</h2>\n<table><thead><tr><th>Member</th><th>Status</th><th>Next ask</th><th>Last reply</th><th></th></tr></thead><tbody>\n",
-        )],
+        &[
+            Piece::Own(
+                "</div>\n<h2>Members</h2>\n<table><thead><tr><th>Member</th><th>Status</th>",
+            ),
+            Piece::Own("<th>Next ask</th><th>Last reply</th><th></th></tr></thead><tbody>\n"),
+        ],
     )?;
     put_lines(page, names, forms, lines)?;
     names.put_all(

@@ -152,9 +152,10 @@ fn put_full_table(
 {
     names.put_all(
         page,
-        &[Piece::Own(
-            "<table><thead><tr><th>Action</th><th>Status</th><th>There</th><th>Waits for</th><th>Next ask</th><th></th></tr></thead><tbody>\n",
-        )],
+        &[
+            Piece::Own("<table><thead><tr><th>Action</th><th>Status</th><th>There</th>"),
+            Piece::Own("<th>Waits for</th><th>Next ask</th><th></th></tr></thead><tbody>\n"),
+        ],
     )?;
     put_rows(page, names, forms, rows)?;
     names.put_all(page, &[Piece::Own("</tbody></table>\n")])

@@ -131,7 +131,8 @@ fn put_overdue(page: &mut Vec<u8>, overdue: &Overdue) -> Result<(), Memory> {
         page,
         name,
         Kind::Gauge,
-        "Members of actions that are closing or cancelling that were asked in vain three times or more, or are to be asked by now.",
+        "Members of actions that are closing or cancelling that were asked in vain three times or more, or \
+         are to be asked by now.",
     )?;
     labelled(page, name, "why", "silent")?;
     put_number(page, overdue.silent)?;

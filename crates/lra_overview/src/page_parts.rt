@@ -24,12 +24,13 @@ const KEY: &str =
     "<input type=\"password\" name=\"key\" placeholder=\"key\" aria-label=\"key\" autocomplete=\"new-password\">";
 
 /// The beginning of each page.
-const HEAD: &str =
-    "<!DOCTYPE html>\n<html lang=\"en\"><head><meta charset=\"utf-8\"><meta name=\"viewport\" content=\"width=device-width,initial-scale=1\"><title>Raxunto</title><style>\n";
+const HEAD: &str = "<!DOCTYPE html>\n<html lang=\"en\"><head><meta charset=\"utf-8\">\
+<meta name=\"viewport\" content=\"width=device-width,initial-scale=1\"><title>Raxunto</title><style>\n";
 
 /// The looks of a page, by day.
 const LOOKS: &str =
-    ":root{color-scheme:light dark;--ink:#1c2430;--dim:#5b6675;--paper:#fbfbf9;--card:#fff;--line:#d9dde3;--go:#1f6f43;--wait:#9a5b00;--bad:#b3261e;--link:#1a5fb4}
+    ":root{color-scheme:light dark;--ink:#1c2430;--dim:#5b6675;--paper:#fbfbf9;--card:#fff;\
+--line:#d9dde3;--go:#1f6f43;--wait:#9a5b00;--bad:#b3261e;--link:#1a5fb4}
 body{margin:0;background:var(--paper);color:var(--ink);font:15px/1.5 system-ui,sans-serif}
 header,main{max-width:70rem;margin:0 auto;padding:1rem 1.5rem}
 h1{font-size:1.4rem;margin:0}h2{font-size:1.05rem;margin:1.6rem 0 .6rem}
@@ -48,19 +49,23 @@ th{font-weight:600;color:var(--dim);font-size:.85rem}
 code,svg text{font:13px ui-monospace,monospace}
 form{display:flex;flex-wrap:wrap;gap:.4rem;margin:.4rem 0;align-items:center}
 summary{cursor:pointer;color:var(--link)}td code{overflow-wrap:anywhere}
-input,button{font:inherit;font-size:.85rem;padding:.15rem .6rem;border:1px solid var(--line);border-radius:.35rem;background:var(--paper);color:var(--ink)}
+input,button{font:inherit;font-size:.85rem;padding:.15rem .6rem;border:1px solid var(--line);border-radius:.35rem;\
+background:var(--paper);color:var(--ink)}
 input{width:7rem}button{cursor:pointer}button:hover{border-color:var(--bad);color:var(--bad)}
 .Active,.Closing,.Cancelling,.Completing,.Compensating{color:var(--wait)}
 .Closed,.Completed{color:var(--go)}.Cancelled,.Compensated,.Left{color:var(--dim)}
 .FailedToClose,.FailedToCancel,.FailedToComplete,.FailedToCompensate{color:var(--bad)}
 .tree{overflow-x:auto;background:var(--card);border:1px solid var(--line);padding:.5rem}
-@media(max-width:48rem){header,main{padding:.8rem}table,tbody,tr,td{display:block}thead,td:empty{display:none}td{border:0;padding:.1rem .7rem}tr{border-bottom:1px solid var(--line);padding:.4rem 0}td[data-is]:before{content:attr(data-is);color:var(--dim);margin-right:.5rem}}
+@media(max-width:48rem){header,main{padding:.8rem}table,tbody,tr,td{display:block}\
+thead,td:empty{display:none}td{border:0;padding:.1rem .7rem}tr{border-bottom:1px solid var(--line);padding:.4rem 0}\
+td[data-is]:before{content:attr(data-is);color:var(--dim);margin-right:.5rem}}
 svg text{fill:var(--ink)}svg circle,svg rect{fill:currentColor}svg .branch{fill:none;stroke:var(--line);stroke-width:2}
 ";
 
 /// The looks of a page by night.
 const NIGHT: &str =
-    "@media(prefers-color-scheme:dark){:root{--ink:#e4e7ec;--dim:#98a2b1;--paper:#14171c;--card:#1b2027;--line:#333b47;--go:#6fcf97;--wait:#e8b45a;--bad:#ff8a80;--link:#8ab4f8}}
+    "@media(prefers-color-scheme:dark){:root{--ink:#e4e7ec;--dim:#98a2b1;--paper:#14171c;--card:#1b2027;\
+--line:#333b47;--go:#6fcf97;--wait:#e8b45a;--bad:#ff8a80;--link:#8ab4f8}}
 </style></head><body><header><h1><a href=\"/\">Raxunto</a></h1>";
 
 /// Adds what a page begins with.

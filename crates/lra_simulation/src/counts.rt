@@ -36,7 +36,8 @@ impl Ends {
             unended,
         } = *self;
         println!(rt;
-            "ends      closed {closed}, cancelled {cancelled}, failed to close {failed_to_close}, failed to cancel {failed_to_cancel}, unended {unended}"
+            "ends      closed {closed}, cancelled {cancelled}, failed to close {failed_to_close}, \
+             failed to cancel {failed_to_cancel}, unended {unended}"
         )?;
         Ok(())
     }
