@@ -16,7 +16,8 @@ from patience import REQUESTS, narrow
 from service import HOST, LATE, PATIENCE, Service, check, equal, free_port, id_of, is_ready, number_of, received
 from watching import watched
 
-# Each setting's word, what it is where nothing is said, the least and the most that it may be.
+# Each setting's word, what it is where nothing is said, the least and the most that it may be. One that is less than
+# it may be isn't set.
 NUMBERS = (
     ("connections", 10000, 1, 1000000),
     ("callbacks", 1024, 1, 65536),
@@ -32,13 +33,15 @@ NUMBERS = (
     ("roll-after", 50000, 1, 50000),
     ("remember", 3600, 1, 31536000),
     ("site", 0, 0, 65535),
+    ("default-limit", 0, 1, 2**53),
 )
 # Options whose values are texts, and those of them that may be said any number of times.
 WORDS = (
     "base", "also-base", "token", "operators", "operators-key", "key", "origin", "members", "log", "log-format", "fence"
 )
 LISTS = ("also-base", "origin", "members")
-USUAL = {name: str(usual) for name, usual, _, _ in NUMBERS} | {"stop-at-eof": "false"}
+NAMES = [name for name, *_ in NUMBERS] + ["stop-at-eof"]
+USUAL = {name: str(usual) for name, usual, least, _ in NUMBERS if least <= usual} | {"stop-at-eof": "false"}
 # How many seconds what is in flight has at a gentle end.
 PARTING = 10
 
@@ -64,7 +67,7 @@ def told_of(setting, *options):
 
 def settings_of(setting, *options):
     told = told_of(setting, *options)
-    return {name: told[name] for name in USUAL}
+    return {name: told[name] for name in NAMES if name in told}
 
 
 def near(usual, most, step=1):
@@ -206,7 +209,7 @@ def test_words_of_the_log_and_of_terms_are_told_and_faults_named(setting):
 def test_help_is_told(setting):
     told = setting.run("serve", "--help")
     equal("the status, and what is told", (told.status, told.told), (0, ""))
-    for name in list(USUAL) + ["config", "check", "drain", "restored", *WORDS]:
+    for name in NAMES + ["config", "check", "drain", "restored", *WORDS]:
         check(f"--{name} is missing", f"--{name}" in told.output)
     check("the words are missing", "lra serve [OPTIONS] <ADDRESS> <FILE> <WORKERS>" in told.output)
 

@@ -33,6 +33,8 @@ pub(crate) struct Rest {
     keys: Option<KeyBook>,
     names: Vec<Name>,
     rules: Rules,
+    /// The limit in milliseconds of starts that give none, or 0.
+    default_limit: u64,
     fence: Option<Arc<Fence>>,
 }
 
@@ -53,6 +55,7 @@ impl Rest {
             keys: self.keys.as_ref(),
             names: &self.names,
             rules: &self.rules,
+            default_limit: self.default_limit,
         }
     }
 
@@ -233,6 +236,7 @@ pub(crate) fn grounds_of<R: AllocGlobal + Files<File = File> + KeyFiles + Fenced
             keys: keys_of(rt, &options.said)?,
             names: names_of(alloc, &options.said)?,
             rules: rules_of(alloc, &options.said)?,
+            default_limit: options.settings.default_limit_ms,
             fence: fence_of(rt, &options.said)?,
         },
     })

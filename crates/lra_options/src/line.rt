@@ -48,6 +48,7 @@ fn help_of(parameter: Parameter) -> &'static str {
         }
         Parameter::Remember => "How long a folder's journal stays once it has ended [3600]",
         Parameter::Site => "The number that a folder's identifiers begin with [0]",
+        Parameter::DefaultLimit => "The limit of starts that give none [none]",
     }
 }
 
@@ -59,7 +60,7 @@ fn unit_of(parameter: Parameter) -> &'static str {
         | Parameter::HostShare
         | Parameter::RollAfter
         | Parameter::Site => "N",
-        Parameter::RetryFirst | Parameter::RetryLast => "MS",
+        Parameter::RetryFirst | Parameter::RetryLast | Parameter::DefaultLimit => "MS",
         _ => "S",
     }
 }

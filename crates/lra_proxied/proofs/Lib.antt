@@ -1,3 +1,6 @@
 pub mod Prefixes
 pub mod Objects
 pub mod Others
+pub mod Asking
+pub mod Starts
+pub mod Orders

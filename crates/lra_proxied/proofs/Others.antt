@@ -13,7 +13,7 @@ use Rattle.lra_front.specs.Bodies.{identifier_key, object_in, text_under}
 use Rattle.lra_proxied.specs.Paths.{served_behind, other_target}
 use Rattle.lra_proxied.specs.Texts.{other_text}
 use Rattle.lra_proxied.specs.Bodies.{other_members, other_at, other_body, IsRead}
-use Rattle.lra_proxied.specs.Requests.{Means, LacksMemory}
+use Rattle.lra_proxied.specs.Requests.{MeansParts, Means, LacksMemory}
 use Rattle.lra_proxied.specs.inner.Found.{IsOther}
 use Rattle.lra_proxied.specs.inner.Made.{with_others}
 
@@ -80,24 +80,26 @@ pub other_none : (base : List ℕ) (olders : List (List ℕ)) (key body : List �
 unfolding other_at
 other_none base olders key body d is e = rw (is, found_none base olders key d e) refl
 
-found_some : (base : List ℕ) (olders : List (List ℕ)) (key : List ℕ) (d : Data) (text : List ℕ) (other : String Global)
+found_some : (base : List ℕ) (olders : List (List ℕ)) (key : List ℕ) (d more : Data) (text : List ℕ)
+    (other : String Global) → more ≡ string text
     → Some text ≡ option_and_then (other_text base olders) (option_and_then as_str (get key d))
-    → IfSome (as_object d) (λ ms. object_in (string_bytes other) ≡ Some (put key (string text) ms))
+    → IfSome (as_object d) (λ ms. object_in (string_bytes other) ≡ Some (put key more ms))
     → IsOther (option_and_then (other_members base olders key) (as_object d)) (Some other)
-found_some base olders key null text other e h = absurd (true≢false (ap is_some e))
-found_some base olders key (boolean b) text other e h = absurd (true≢false (ap is_some e))
-found_some base olders key (number n) text other e h = absurd (true≢false (ap is_some e))
-found_some base olders key (string s) text other e h = absurd (true≢false (ap is_some e))
-found_some base olders key (array ds) text other e h = absurd (true≢false (ap is_some e))
-found_some base olders key (object ms) text other e h = rw (← e) h
+found_some base olders key null more text other is e h = absurd (true≢false (ap is_some e))
+found_some base olders key (boolean b) more text other is e h = absurd (true≢false (ap is_some e))
+found_some base olders key (number n) more text other is e h = absurd (true≢false (ap is_some e))
+found_some base olders key (string s) more text other is e h = absurd (true≢false (ap is_some e))
+found_some base olders key (array ds) more text other is e h = absurd (true≢false (ap is_some e))
+found_some base olders key (object ms) more text other is e h = rw (← e, ← is) h
 
-pub other_some : (base : List ℕ) (olders : List (List ℕ)) (key body : List ℕ) (d : Data) (text : List ℕ)
-    (other : String Global) → object_in body ≡ as_object d
+pub other_some : (base : List ℕ) (olders : List (List ℕ)) (key body : List ℕ) (d more : Data) (text : List ℕ)
+    (other : String Global) → object_in body ≡ as_object d → more ≡ string text
     → Some text ≡ option_and_then (other_text base olders) (option_and_then as_str (get key d))
-    → IfSome (as_object d) (λ ms. object_in (string_bytes other) ≡ Some (put key (string text) ms))
+    → IfSome (as_object d) (λ ms. object_in (string_bytes other) ≡ Some (put key more ms))
     → IsOther (other_at base olders key body) (Some other)
 unfolding other_at
-other_some base olders key body d text other is e h = rw is (found_some base olders key d text other e h)
+other_some base olders key body d more text other is goes e h =
+    rw is (found_some base olders key d more text other goes e h)
 
 -- ---- requests
 
@@ -109,20 +111,30 @@ body_meant None (Some body) own h = absurd (true≢false (ap is_some h))
 body_meant (Some ms) None own h = absurd h
 body_meant (Some ms) (Some body) own h = h
 
+-- a request with another target and another body, as far as there are others
+pub made : (own : Request) (target : Option (List ℕ)) (members : Option Members) (body : Option (String Global))
+    → IsOther members body
+    → MeansParts (unwrap_or target own.target) members own (with_others own target (option_map string_bytes body))
+made own target members body other = record {
+  method = refl;
+  target = refl;
+  minor = refl;
+  close = refl;
+  fields = refl;
+  body = body_meant members body own.body other;
+}
+
 -- a request with the target and the body that its own mean
 pub means : (base : List ℕ) (olders : List (List ℕ)) (own : Request) (target body : Option (String Global))
     → option_map string_bytes target ≡ other_target base own.target
     → IsOther (other_body base olders (operation_of own.method (unwrap_or (option_map string_bytes target) own.target))
     own.body) body
     → Means base olders own (with_others own (option_map string_bytes target) (option_map string_bytes body))
-means base olders own target body is other = record {
-  method = refl;
-  target = ap (λ t. unwrap_or t own.target) is;
-  minor = refl;
-  close = refl;
-  fields = refl;
-  body = body_meant _ body own.body other;
-}
+means base olders own target body is other =
+    subst (λ t. MeansParts (unwrap_or t own.target)
+    (other_body base olders (operation_of own.method (unwrap_or t own.target)) own.body) own
+    (with_others own (option_map string_bytes target) (option_map string_bytes body))) is
+    (made own (option_map string_bytes target) _ body other)
 
 -- what a request means wants memory where its target or its body is another
 pub lacks : (base : List ℕ) (olders : List (List ℕ)) (own : Request) (target body : Option (String Global))

@@ -3,4 +3,8 @@ pub mod Paths
 pub mod Texts
 pub mod Bodies
 pub mod Requests
+pub mod Asked
 pub mod Serving
+pub mod Limits
+pub mod Limiting
+pub mod Ordered

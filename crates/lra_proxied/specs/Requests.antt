@@ -1,5 +1,6 @@
 -- What a request means.
-use Rattle.std.specs.Prelude.{◌≡◌, ◌⊎◌, ℕ, List, Some, MatchOption, IsSome, unwrap_or}
+use Rattle.std.specs.Prelude.{◌≡◌, ◌⊎◌, ℕ, List, Option, Some, MatchOption, IsSome, unwrap_or}
+use Rattle.serde_json.specs.Data.{Members}
 use Rattle.lra_wire.specs.Request.{Request}
 use Rattle.lra_front.specs.Routes.{operation_of}
 use Rattle.lra_front.specs.Bodies.{object_in}
@@ -10,17 +11,24 @@ use Rattle.lra_proxied.specs.Bodies.{other_body, IsRead}
 abbrev pub target_meant : List ℕ → List ℕ → List ℕ
 target_meant base target = unwrap_or (other_target base target) target
 
--- What a request means: one that is the same but for its target, and for its body where an identifier is exchanged in
--- that. What such a body is written as isn't said, but what it is read as (RFC 8259).
-pub record Means (base : List ℕ) (olders : List (List ℕ)) (request meant : Request) : Type 0 where
+-- A request that is the same as another, but for this target and for these members of its body, where there are any.
+-- What such a body is written as isn't said, but what it is read as (RFC 8259).
+pub record MeansParts (wanted : List ℕ) (members : Option Members) (request meant : Request) : Type 0 where
   pub method : meant.method ≡ request.method
-  pub target : meant.target ≡ target_meant base request.target
+  pub target : meant.target ≡ wanted
   pub minor : meant.minor ≡ request.minor
   pub close : meant.close ≡ request.close
   pub fields : meant.fields ≡ request.fields
-  pub body : MatchOption (other_body base olders (operation_of meant.method meant.target) request.body)
+  pub body : MatchOption members
       (meant.body ≡ request.body)
-      (λ members. object_in meant.body ≡ Some members)
+      (λ ms. object_in meant.body ≡ Some ms)
+
+-- what a request means: one that is the same but for its target, and for its body where an identifier is exchanged in
+-- that
+abbrev pub Means : List ℕ → List (List ℕ) → Request → Request → Type 0
+Means base olders request meant = MeansParts (target_meant base request.target)
+    (other_body base olders (operation_of request.method (target_meant base request.target)) request.body) request
+    meant
 
 -- what a request means can't be told without memory: it means another target, or its body is looked at
 abbrev pub LacksMemory : List ℕ → List (List ℕ) → Request → Type 0

@@ -1,12 +1,12 @@
 -- Whoever answers, asked what each request means.
 use Rattle.std.specs.Prelude.{◌≡◌, ◌⊎◌, ℕ, Bool, ◌&&◌, List, None, IsTrue, IsFalse}
 use Rattle.lra_wire.specs.Request.{Request}
-use Rattle.lra_commands.specs.declared.refusal.Refusal.TheVariants as refusal
 use Rattle.lra_front.specs.declared.denial.Denial.TheVariants as denial
 use Rattle.lra_front.specs.declared.answer.Answer.TheVariants as answer
 use Rattle.lra_steps.specs.declared.responder.Answered.{Answered}
 use Rattle.lra_proxied.specs.Paths.{is_outside}
 use Rattle.lra_proxied.specs.Requests.{Means, LacksMemory}
+use Rattle.lra_proxied.specs.Asked.{AnswersSome, LacksSome}
 
 -- what there is to know of who answers, the older bases in their order, and whether requests are let in by the path of
 -- the base alone
@@ -17,18 +17,14 @@ pub record Served (S : Type 0) : Type 0 where
 
 module _ {S : Type 0} (base_of : S → List ℕ) (responds : S → ℕ → Request → Answered → S → Type 0) where
   -- a request that this one means is answered
-  pub record Answers (before : Served S) (moment : ℕ) (request : Request) (answered : Answered) (after : S) : Type 0
-    where
-      pub meant : Request
-      pub means : Means (base_of before.inner) before.olders request meant
-      pub does : responds before.inner moment meant answered after
+  abbrev pub Answers : Served S → ℕ → Request → Answered → S → Type 0
+  Answers before moment request answered after =
+      AnswersSome responds (Means (base_of before.inner) before.olders request) before.inner moment answered after
 
   -- memory was refused in making it, and nothing was done
-  pub record Refuses (before : Served S) (request : Request) (answered : Answered) (after : S) : Type 0 where
-    pub lacks : LacksMemory (base_of before.inner) before.olders request
-    pub answer : answered.answer ≡ answer.Denied (denial.Refused refusal.Memory)
-    pub position : answered.position ≡ None
-    pub unchanged : after ≡ before.inner
+  abbrev pub Refuses : Served S → Request → Answered → S → Type 0
+  Refuses before request answered after =
+      LacksSome (LacksMemory (base_of before.inner) before.olders request) before.inner answered after
 
   -- a request is kept out: its target isn't behind the path of the base, and requests are let in by that alone
   abbrev pub keeps_out : Served S → Request → Bool

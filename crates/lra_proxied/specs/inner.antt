@@ -1,3 +1,5 @@
+pub mod Asks
 pub mod Found
+pub mod Limited
 pub mod Made
 pub mod Stays

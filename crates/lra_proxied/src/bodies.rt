@@ -1,12 +1,11 @@
-//! Bodies in which an identifier under an older base stands.
+//! The object that a body is, with another value under a key; and bodies in which an identifier under an older base
+//! stands.
 
 ghost use Rattle.std.specs.Prelude.{
   ◌≡◌,
   ◌≢◌,
   ◌≤◌,
-  ◌<◌,
   [],
-  length,
   option_map,
   option_and_then,
   string_bytes,
@@ -15,7 +14,7 @@ ghost use Rattle.std.specs.Prelude.{
   OnSome,
   OnErr,
 };
-ghost use Rattle.serde_json.specs.Data.{depth, put, string};
+ghost use Rattle.serde_json.specs.Data.{depth, put};
 ghost use Rattle.serde_json.specs.Find.{as_object, as_str, get};
 ghost use Rattle.serde_json.specs.Read.{max_depth};
 ghost use Rattle.serde_json.specs.View.{view};
@@ -29,13 +28,16 @@ use lra_front::{Denial, Operation};
 use lra_ids::Base;
 use lra_model::Memory;
 use serde_json::Value;
+use serde_json::value::Map;
 use std::alloc::Global;
 
-/// The value that a body is, if it is one.
-fn value_in(alloc: Global, body: &[u8]) -> Result<Option<Value>, Memory>
-    requires { 0 < length body.now }
+/// The value that a body is, if it is one. An empty body is an object without members.
+pub(crate) fn value_in(alloc: Global, body: &[u8]) -> Result<Option<Value>, Memory>
     ensures { IfOk result (Finds body.now) }
 {
+    if body.is_empty() {
+        return Ok(Some(Value::Object(Map::new(alloc))));
+    }
     match Value::from_slice(alloc, body) {
         Ok(value) => Ok(Some(value)),
         Err(error) if error.is_memory() => Err(Memory),
@@ -64,16 +66,22 @@ fn other_under(
     }
 }
 
-/// The body with a text under a key of what it is.
-fn body_with(alloc: Global, value: Value, key: &str, text: String) -> Result<String, Memory>
-    requires { depth (view value) ≤ max_depth }
+/// The body with a text or a number under a key of what it is.
+pub(crate) fn body_with(
+    alloc: Global,
+    value: Value,
+    key: &str,
+    member: Value,
+) -> Result<String, Memory>
+    requires nests { depth (view value) ≤ max_depth }
+    requires flat { depth (view member) ≡ 0 }
     ensures { IfOk result (λ body. IfSome (as_object (view value)) (λ ms. object_in (string_bytes body)
-        ≡ Some (put key.now (string (string_bytes text)) ms))) }
+        ≡ Some (put key.now (view member) ms))) }
 {
     match value {
         Value::Object(members) => {
             let mut members = members;
-            members.insert(String::from_str(alloc, key)?, Value::String(text))?;
+            members.insert(String::from_str(alloc, key)?, member)?;
             Ok(Value::Object(members).to_string(alloc)?)
         }
         value => Ok(value.to_string(alloc)?),
@@ -99,7 +107,7 @@ fn other_at(
         return Ok(None);
     };
     match other_under(alloc, base, olders, key, &value) {
-        Ok(Some(text)) => Ok(Some(body_with(alloc, value, key, text)?)),
+        Ok(Some(text)) => Ok(Some(body_with(alloc, value, key, Value::from(text))?)),
         Ok(None) => {
             drop(value);
             Ok(None)

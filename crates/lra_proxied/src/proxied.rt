@@ -2,9 +2,9 @@
 
 ghost use Rattle.std.specs.Prelude.{◌≡◌};
 
+use crate::asked::ask;
 use crate::paths::is_outside;
 use crate::requests::other_request;
-use lra_commands::Refusal;
 use lra_front::{Denial, Routes};
 use lra_ids::{Base, Instance};
 use lra_steps::{Answered, Responder};
@@ -82,15 +82,8 @@ impl<A: Responder> Responder for Proxied<A> {
         if self.is_strict && is_outside(base.as_str(), request.target.as_str()) {
             return Answered::denied(self.inner.instance(), Denial::NoSuchPath);
         }
-        match other_request(alloc, routes, base, self.olders.as_slice(), request) {
-            Ok(Some(meant)) => {
-                let answered = self.inner.respond(alloc, routes, moment, &meant);
-                drop(meant);
-                answered
-            }
-            Ok(None) => self.inner.respond(alloc, routes, moment, request),
-            Err(_) => { Answered::denied(self.inner.instance(), Denial::Refused(Refusal::Memory)) }
-        }
+        let meant = other_request(alloc, routes, base, self.olders.as_slice(), request);
+        ask(&mut self.inner, alloc, routes, moment, request, meant)
     }
 
     fn rest(&mut self) {

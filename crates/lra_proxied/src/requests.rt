@@ -25,7 +25,7 @@ fn text_of<'t>(other: &'t Option<String>, own: &'t str) -> &'t str
 }
 
 /// A request with another target and another body, as far as there are others.
-fn with_parts(
+pub(crate) fn with_parts(
     alloc: Global,
     request: &RequestRead,
     target: Option<String>,

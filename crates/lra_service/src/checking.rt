@@ -55,14 +55,17 @@ pub fn put_olders<W: Write>(
     Ok(put(writer, line.as_bytes())?)
 }
 
-/// Writes a line for each setting.
+/// Writes a line for each setting, but for a default limit where there is none.
 pub fn put_settings<W: Write>(
     alloc: Global,
     settings: &Settings,
     writer: &mut W,
 ) -> Result<(), ServeFault> {
     for parameter in &Parameter::ALL {
-        put_number(alloc, parameter.name(), settings.get(*parameter), writer)?;
+        let value = settings.get(*parameter);
+        if parameter.fits(value) {
+            put_number(alloc, parameter.name(), value, writer)?;
+        }
     }
     let line = if settings.stop_at_eof {
         "stop-at-eof = true\n"

@@ -7,7 +7,7 @@ use lra_front::Denial;
 use lra_ids::Base;
 use lra_logs::{Event, Journalist, Port};
 use lra_opening::Herald;
-use lra_proxied::{Proxied, copy_bases};
+use lra_proxied::{Limited, Proxied, copy_bases};
 use lra_ruled::Ruled;
 use lra_rules::Rules;
 use lra_steps::Responder;
@@ -29,6 +29,8 @@ pub struct Terms<'a> {
     pub names: &'a [Name],
     /// Rules that say where members may be.
     pub rules: &'a Rules,
+    /// The limit in milliseconds of starts that give none, or 0.
+    pub default_limit: u64,
 }
 
 impl<'a> Terms<'a> {
@@ -40,6 +42,7 @@ impl<'a> Terms<'a> {
             keys: None,
             names: &[],
             rules,
+            default_limit: 0,
         }
     }
 }
@@ -56,7 +59,7 @@ pub struct Doorman<'a, H> {
 
 /// Handler within the filters of a service's terms, with a count of the requests that are let in.
 pub type Received<'a, R, H, A> = Guarded<
-    Proxied<CountedResponder<'a, Ruled<'a, A>, R>>,
+    Proxied<CountedResponder<'a, Limited<Ruled<'a, A>>, R>>,
     Porter<'a, R, Doorman<'a, H>>,
     Doorman<'a, H>,
 >;
@@ -138,7 +141,8 @@ pub fn receive<'a, R: Wait + Clock + KeyFiles, H: Herald + Journalist, A: Respon
         return Err(inner);
     };
     let ruled = Ruled::new(inner, terms.rules);
-    let counted = CountedResponder::new(ruled, rt, doorman.tallies);
+    let limited = Limited::new(ruled, terms.default_limit);
+    let counted = CountedResponder::new(limited, rt, doorman.tallies);
     let proxied = Proxied::new(counted, olders, terms.is_strict);
     let told = Doorman::new(alloc, terms, doorman.herald, doorman.tallies);
     Ok(Guarded::new(proxied, porter, told))
@@ -150,5 +154,10 @@ where
     R: Wait + Clock + KeyFiles,
     H: Herald + Journalist,
 {
-    received.into_inner().into_inner().into_inner().into_inner()
+    received
+        .into_inner()
+        .into_inner()
+        .into_inner()
+        .into_inner()
+        .into_inner()
 }

@@ -20,6 +20,7 @@ nothing = record {
   roll_after = None;
   remember_seconds = None;
   site = None;
+  default_limit_ms = None;
   stop_at_eof = None;
 }
 
@@ -40,5 +41,6 @@ applied g s = record {
   roll_after = unwrap_or g.roll_after s.roll_after;
   remember_seconds = unwrap_or g.remember_seconds s.remember_seconds;
   site = unwrap_or g.site s.site;
+  default_limit_ms = unwrap_or g.default_limit_ms s.default_limit_ms;
   stop_at_eof = unwrap_or g.stop_at_eof s.stop_at_eof;
 }

@@ -5,6 +5,7 @@ use Rattle.lra_settings.specs.declared.parameter.Parameter.TheVariants.{Connecti
 use Rattle.lra_settings.specs.declared.parameter.Parameter.TheVariants.{RequestTimeout, ReplyTimeout, ConnectTimeout}
 use Rattle.lra_settings.specs.declared.parameter.Parameter.TheVariants.{CallbackTimeout, SyncSeconds, RetryFirst}
 use Rattle.lra_settings.specs.declared.parameter.Parameter.TheVariants.{RetryLast, RollAfter, Remember, Site}
+use Rattle.lra_settings.specs.declared.parameter.Parameter.TheVariants.{DefaultLimit}
 
 -- the word of a parameter, on a command line and in a file (this project's choice)
 abbrev pub name_of : Parameter → List ℕ
@@ -22,6 +23,7 @@ name_of RetryLast = codes "retry-last"
 name_of RollAfter = codes "roll-after"
 name_of Remember = codes "remember"
 name_of Site = codes "site"
+name_of DefaultLimit = codes "default-limit"
 
 -- the least that a parameter may be: none but the site's number may be 0 (this project's choice)
 abbrev pub least_of : Parameter → ℕ
@@ -39,9 +41,10 @@ least_of RetryLast = 1
 least_of RollAfter = 1
 least_of Remember = 1
 least_of Site = 0
+least_of DefaultLimit = 1
 
--- the most that a parameter may be: so many, a day in seconds, a day in milliseconds, a year in seconds, or what 16
--- bits hold (this project's choice)
+-- the most that a parameter may be: so many, a day in seconds, a day in milliseconds, a year in seconds, what 16 bits
+-- hold, or 2^53, up to which all programs read numbers of JSON alike (RFC 8259, section 6; this project's choice)
 abbrev pub most_of : Parameter → ℕ
 most_of Connections = 1000000
 most_of Callbacks = 65536
@@ -57,6 +60,7 @@ most_of RetryLast = 86400000
 most_of RollAfter = 50000
 most_of Remember = 31536000
 most_of Site = 65535
+most_of DefaultLimit = 9007199254740992
 
 -- a parameter may be so much
 abbrev pub fits : Parameter → ℕ → Bool

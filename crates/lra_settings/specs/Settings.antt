@@ -1,10 +1,11 @@
 -- All settings of a service.
-use Rattle.std.specs.Prelude.{ℕ, Bool, false, ◌&&◌, nat_le}
+use Rattle.std.specs.Prelude.{ℕ, Bool, false, ◌&&◌, ◌||◌, ◌==◌, nat_le}
 use Rattle.lra_settings.specs.declared.parameter.Parameter.{Parameter}
 use Rattle.lra_settings.specs.declared.parameter.Parameter.TheVariants.{Connections, Callbacks, HostShare, IdleTimeout}
 use Rattle.lra_settings.specs.declared.parameter.Parameter.TheVariants.{RequestTimeout, ReplyTimeout, ConnectTimeout}
 use Rattle.lra_settings.specs.declared.parameter.Parameter.TheVariants.{CallbackTimeout, SyncSeconds, RetryFirst}
 use Rattle.lra_settings.specs.declared.parameter.Parameter.TheVariants.{RetryLast, RollAfter, Remember, Site}
+use Rattle.lra_settings.specs.declared.parameter.Parameter.TheVariants.{DefaultLimit}
 use Rattle.lra_settings.specs.declared.settings.Settings.{Settings}
 use Rattle.lra_settings.specs.Parameters.{fits}
 
@@ -25,6 +26,7 @@ usual = record {
   roll_after = 50000;
   remember_seconds = 3600;
   site = 0;
+  default_limit_ms = 0;
   stop_at_eof = false;
 }
 
@@ -44,17 +46,22 @@ value_of s RetryLast = s.retry_last_ms
 value_of s RollAfter = s.roll_after
 value_of s Remember = s.remember_seconds
 value_of s Site = s.site
+value_of s DefaultLimit = s.default_limit_ms
+
+-- there is no default limit, or it may be what it is
+abbrev pub is_limit_fit : Settings → Bool
+is_limit_fit s = s.default_limit_ms == 0 || fits DefaultLimit s.default_limit_ms
 
 -- each parameter may be what it is
 abbrev pub are_in_range : Settings → Bool
 are_in_range s =
-    ((((((((((((fits Connections s.connections && fits Callbacks s.callbacks) && fits HostShare s.host_share)
+    (((((((((((((fits Connections s.connections && fits Callbacks s.callbacks) && fits HostShare s.host_share)
     && fits IdleTimeout s.idle_seconds) && fits RequestTimeout s.request_seconds)
     && fits ReplyTimeout s.reply_seconds) && fits ConnectTimeout s.connect_seconds)
     && fits CallbackTimeout s.callback_seconds) && fits SyncSeconds s.sync_seconds)
     && fits RetryFirst s.retry_first_ms)
     && fits RetryLast s.retry_last_ms) && fits RollAfter s.roll_after) && fits Remember s.remember_seconds)
-    && fits Site s.site
+    && fits Site s.site) && is_limit_fit s
 
 -- a service may be run by them: each parameter may be what it is, and the first pause is no longer than the last
 abbrev pub are_fit : Settings → Bool

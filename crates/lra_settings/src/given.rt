@@ -24,6 +24,7 @@ pub struct Given {
     pub roll_after: Option<u64>,
     pub remember_seconds: Option<u64>,
     pub site: Option<u64>,
+    pub default_limit_ms: Option<u64>,
     pub stop_at_eof: Option<bool>,
 }
 
@@ -47,6 +48,7 @@ impl Given {
             roll_after: None,
             remember_seconds: None,
             site: None,
+            default_limit_ms: None,
             stop_at_eof: None,
         }
     }
@@ -68,6 +70,7 @@ impl Given {
             Parameter::RollAfter => &mut self.roll_after,
             Parameter::Remember => &mut self.remember_seconds,
             Parameter::Site => &mut self.site,
+            Parameter::DefaultLimit => &mut self.default_limit_ms,
         };
         *place = Some(value);
     }
@@ -91,6 +94,7 @@ impl Given {
             roll_after: self.roll_after.unwrap_or(settings.roll_after),
             remember_seconds: self.remember_seconds.unwrap_or(settings.remember_seconds),
             site: self.site.unwrap_or(settings.site),
+            default_limit_ms: self.default_limit_ms.unwrap_or(settings.default_limit_ms),
             stop_at_eof: self.stop_at_eof.unwrap_or(settings.stop_at_eof),
         }
     }

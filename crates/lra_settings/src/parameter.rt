@@ -20,11 +20,12 @@ pub enum Parameter {
     RollAfter,
     Remember,
     Site,
+    DefaultLimit,
 }
 
 impl Parameter {
     /// All of them.
-    pub const ALL: [Parameter; 14] = [
+    pub const ALL: [Parameter; 15] = [
         Parameter::Connections,
         Parameter::Callbacks,
         Parameter::HostShare,
@@ -39,6 +40,7 @@ impl Parameter {
         Parameter::RollAfter,
         Parameter::Remember,
         Parameter::Site,
+        Parameter::DefaultLimit,
     ];
 
     /// Its word, on a command line and in a file.
@@ -60,6 +62,7 @@ impl Parameter {
             Parameter::RollAfter => "roll-after",
             Parameter::Remember => "remember",
             Parameter::Site => "site",
+            Parameter::DefaultLimit => "default-limit",
         }
     }
 
@@ -104,6 +107,7 @@ impl Parameter {
             Parameter::RollAfter => 50_000,
             Parameter::Remember => 31_536_000,
             Parameter::Site => 65_535,
+            Parameter::DefaultLimit => 9_007_199_254_740_992,
         }
     }
 

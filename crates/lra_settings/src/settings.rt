@@ -1,12 +1,12 @@
 //! All settings.
 
 ghost use Rattle.std.specs.Prelude.{◌≡◌};
-ghost use Rattle.lra_settings.specs.Settings.{usual, value_of, are_in_range, are_fit};
+ghost use Rattle.lra_settings.specs.Settings.{usual, value_of, is_limit_fit, are_in_range, are_fit};
 
 use crate::parameter::Parameter;
 
-/// The settings of a service: how much it has at once, how long each waits for another, and when a folder's journals
-/// roll.
+/// The settings of a service: how much it has at once, how long each waits for another, when a folder's journals roll,
+/// and what limit starts have that give none.
 #[derive(Clone, Copy, Debug, PartialEq, Eq)]
 pub struct Settings {
     /// The number of connections at once.
@@ -37,6 +37,8 @@ pub struct Settings {
     pub remember_seconds: u64,
     /// The number with which the identifiers of a folder's journals begin.
     pub site: u64,
+    /// The milliseconds of the limit that a start has which gives none. 0 is no limit.
+    pub default_limit_ms: u64,
     /// The service ends gently once standard input has ended.
     pub stop_at_eof: bool,
 }
@@ -61,6 +63,7 @@ impl Settings {
             roll_after: 50_000,
             remember_seconds: 3_600,
             site: 0,
+            default_limit_ms: 0,
             stop_at_eof: false,
         }
     }
@@ -84,7 +87,15 @@ impl Settings {
             Parameter::RollAfter => self.roll_after,
             Parameter::Remember => self.remember_seconds,
             Parameter::Site => self.site,
+            Parameter::DefaultLimit => self.default_limit_ms,
         }
+    }
+
+    /// Returns whether there is no default limit, or it may be what it is.
+    fn is_limit_fit(&self) -> bool
+        ensures { result ≡ is_limit_fit self.now }
+    {
+        self.default_limit_ms == 0 || Parameter::DefaultLimit.fits(self.default_limit_ms)
     }
 
     /// Returns whether each parameter may be what it is.
@@ -105,6 +116,7 @@ impl Settings {
             && Parameter::RollAfter.fits(self.roll_after)
             && Parameter::Remember.fits(self.remember_seconds)
             && Parameter::Site.fits(self.site)
+            && self.is_limit_fit()
     }
 
     /// Returns whether a service may be run by them: each parameter may be what it is, and the first pause is no longer

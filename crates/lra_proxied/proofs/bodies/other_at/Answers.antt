@@ -12,8 +12,8 @@ returns-in_default-clause-ok c = unread_other c.args.base.now c.args.olders.now 
 
 pub returns-in_ok-body_with-in-Ok-Some-clause-ok : goal.returns-in_ok-body_with-in-Ok-Some-clause-ok
 returns-in_ok-body_with-in-Ok-Some-clause-ok c =
-    other_some c.args.base.now c.args.olders.now c.args.key.now c.args.body.now _ _ c.in_ok-body_with-in-Ok-Some.field-0
-    (search rules)
+    other_some c.args.base.now c.args.olders.now c.args.key.now c.args.body.now _ _ _
+    c.in_ok-body_with-in-Ok-Some.field-0 (search rules) (search rules)
     (rw c.in-Ok-Some.field-0-is at c.in-Ok-Some.ensures) c.in_ok-body_with-in-Ok-Some.ensures
 
 pub returns-in-Ok-None-clause-ok : goal.returns-in-Ok-None-clause-ok

@@ -1,0 +1,38 @@
+-- What starts come to under a default limit.
+use Rattle.std.specs.Prelude.{◌≡◌, ℕ, ◌<◌, false, if◌then◌else◌, List, codes, is_none, Some, None, MatchOption}
+use Rattle.std.specs.Prelude.{Result, Ok}
+use Rattle.serde_json.specs.Data.{Members}
+use Rattle.serde_json.specs.Find.{get_member}
+use Rattle.lra_ids.specs.Identifiers.{action_uri}
+use Rattle.lra_wire.specs.Request.{Request}
+use Rattle.lra_front.specs.declared.operation.Operation.TheVariants as operation
+use Rattle.lra_front.specs.declared.denial.Denial.{Denial}
+use Rattle.lra_front.specs.declared.wish.Wish.{Wish}
+use Rattle.lra_front.specs.declared.wish.Wish.TheVariants as wish
+use Rattle.lra_front.specs.Routes.{operation_of}
+use Rattle.lra_front.specs.Bodies.{body_of, text_under}
+use Rattle.lra_front.specs.Wishes.{Asks, IsNamed, limit_in, no_action}
+use Rattle.lra_proxied.specs.Limits.{MeansLimited, may_mean}
+
+-- the limit of an action that a start of these members asks for under a default one: that which they give, or else the
+-- default
+abbrev pub limit_under : ℕ → Members → ℕ
+limit_under limit ms = if is_none (get_member (codes "limit") ms) then limit else limit_in ms
+
+-- an action with that limit is asked for, at the top or under the parent of which the members have the URI
+abbrev pub AsksStart : ℕ → List ℕ → Members → ℕ → Result Wish Denial → Type 0
+AsksStart i base ms limit w = MatchOption (text_under (codes "parent") ms)
+    (w ≡ Ok (wish.Start None limit))
+    (λ uri. IsNamed (action_uri i base) uri no_action (λ parent v. v ≡ Ok (wish.Start (Some parent) limit)) w)
+
+-- whichever coordinator is asked what a start means that can be read, it is asked for that action
+abbrev pub StartsAskSo : Type 0
+StartsAskSo = (limit i : ℕ) (base : List ℕ) (request meant : Request) (ms : Members) (w : Result Wish Denial)
+    → 0 < limit → operation_of request.method request.target ≡ Ok operation.Start
+    → body_of operation.Start request.body ≡ Some ms → MeansLimited limit request meant → Asks i base meant w
+    → AsksStart i base ms (limit_under limit ms) w
+
+-- what isn't a start means itself, and without a default limit all do
+abbrev pub OthersMeanThemselves : Type 0
+OthersMeanThemselves = (limit : ℕ) (request meant : Request) → may_mean limit request ≡ false
+    → MeansLimited limit request meant → meant ≡ request

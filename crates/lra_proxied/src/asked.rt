@@ -1,0 +1,36 @@
+//! The call of a responder by the request that another means.
+
+ghost use Rattle.lra_wire.specs.Request.{request_of};
+ghost use Rattle.lra_front.specs.Replies.{HasIdentifiers};
+ghost use Rattle.lra_proxied.specs.inner.Asks.{Asks};
+
+use lra_commands::Refusal;
+use lra_front::{Denial, Routes};
+use lra_model::Memory;
+use lra_steps::{Answered, Responder};
+use lra_wire::RequestRead;
+use std::alloc::Global;
+
+/// Asks a responder what a request means: itself, where it means no other. Nobody is asked where memory was refused in
+/// making that.
+pub(crate) fn ask<A: Responder>(
+    inner: &mut A,
+    alloc: Global,
+    routes: &Routes,
+    moment: u64,
+    request: &RequestRead,
+    meant: Result<Option<RequestRead>, Memory>,
+) -> Answered
+    ensures asks { Asks A.responds (A.sight inner.old) moment request.now meant result (A.sight inner.new) }
+    ensures identifiers { HasIdentifiers result.answer }
+{
+    match meant {
+        Ok(Some(meant)) => {
+            let answered = inner.respond(alloc, routes, moment, &meant);
+            drop(meant);
+            answered
+        }
+        Ok(None) => inner.respond(alloc, routes, moment, request),
+        Err(_) => Answered::denied(inner.instance(), Denial::Refused(Refusal::Memory)),
+    }
+}

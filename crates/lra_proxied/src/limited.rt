@@ -1,0 +1,79 @@
+//! A responder to what starts mean that give no limit.
+
+ghost use Rattle.std.specs.Prelude.{◌≡◌};
+
+use crate::asked::ask;
+use crate::limits::limited_request;
+use lra_front::Routes;
+use lra_ids::{Base, Instance};
+use lra_steps::{Answered, Responder};
+use lra_wire::RequestRead;
+use std::alloc::Global;
+
+/// A responder that is asked what each request means under a default limit: a start that gives no limit means the same
+/// with that one. It can't be dropped, but gives back the responder.
+pub struct Limited<A: Responder> {
+    inner: A,
+    limit: u64,
+}
+
+impl<A: Responder> Limited<A> {
+    /// Adds a default limit in milliseconds to a responder. A limit of 0 is none: all requests mean themselves then.
+    pub fn new(inner: A, limit: u64) -> Limited<A>
+        ensures inner { result.inner ≡ inner }
+        ensures limit { result.limit ≡ limit }
+    {
+        Limited { inner, limit }
+    }
+
+    /// Returns the responder.
+    pub fn into_inner(self) -> A
+        ensures { result ≡ self.inner }
+    {
+        let Limited { inner, limit: _ } = self;
+        inner
+    }
+}
+
+impl<A: Responder> Responder for Limited<A> {
+    ghost use Rattle.lra_proxied.specs.Limiting.{Bounded, RespondsBounded, RestsBounded};
+    ghost use Rattle.lra_proxied.specs.inner.Stays.{bounded_stays};
+
+    ghost State = { Bounded A.State };
+
+    ghost sight = { λ l. record { inner = A.sight l.inner; limit = l.limit } };
+
+    ghost base_of = { λ s. A.base_of s.inner };
+
+    ghost responds = { RespondsBounded A.responds };
+
+    ghost rests = { RestsBounded A.rests };
+
+    fn base(&self) -> &Base {
+        self.inner.base()
+    }
+
+    fn instance(&self) -> Instance {
+        self.inner.instance()
+    }
+
+    fn respond(
+        &mut self,
+        alloc: Global,
+        routes: &Routes,
+        moment: u64,
+        request: &RequestRead,
+    ) -> Answered {
+        let meant = limited_request(alloc, routes, self.limit, request);
+        ask(&mut self.inner, alloc, routes, moment, request, meant)
+    }
+
+    fn rest(&mut self) {
+        self.inner.rest();
+    }
+
+    ghost stays = { λ before after moment request answered h. bounded_stays A.base_of A.responds A.stays before after
+        moment request answered h };
+
+    ghost rest_stays = { λ before after h. A.rest_stays before.inner after.inner h.inner };
+}
