@@ -152,6 +152,8 @@ def build(folder, release):
         architecture = describe(tree, release)
         os.umask(before)
         path = os.path.join(folder, f"raxunto_{release.version}_{architecture}.deb")
-        words = ("dpkg-deb", "--root-owner-group", "--threads-max=1", "-Zxz", "-z3", "--build", tree, path)
+        words = ("dpkg-deb", "--root-owner-group", "--threads-max=1", "-Zxz", "-z3", "--build", tree, f"{path}.part")
         ran(*words, moment=release.moment)
+        # (a run that is ended early leaves nothing under a release's name)
+        os.replace(f"{path}.part", path)
     return path
