@@ -242,9 +242,7 @@ fn opening(alloc: Global, head: &str, height: u64) -> Result<String, Memory>
     ensures { IfOk result (λ text. string_bytes text ≡ drawn.opening head.now height) }
 {
     format!(in alloc;
-        "<svg xmlns=\"http://www.w3.org/2000/svg\" version=\"1.1\" role=\"graphics-document document\" \
-         width=\"1600\" height=\"{height}\" viewBox=\"0 0 1600 {height}\">\n\
-         <title>{head}</title>\n"
+        "<svg xmlns=\"http://www.w3.org/2000/svg\" version=\"1.1\" role=\"graphics-document document\" width=\"1600\" height=\"{height}\" viewBox=\"0 0 1600 {height}\">\n<title>{head}</title>\n"
     )
 }
 
