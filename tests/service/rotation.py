@@ -15,7 +15,7 @@ import folders
 import journal
 import starving
 from participant import Participant, wait_until
-from service import CLOSED, Client, LeftOut, check, equal, id_of, number_of
+from service import CLOSED, PATIENCE, Client, LeftOut, check, equal, id_of, number_of
 from watching import Deniable, denial, watched
 
 # How many connections there are, so that each worker has some.

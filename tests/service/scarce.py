@@ -288,17 +288,16 @@ def test_a_member_is_not_silent_where_the_system_has_no_descriptor_for_its_callb
     """It is asked again until there is one, and nothing is recorded of it meanwhile."""
     with Participant() as member, Written(setting) as service, service.client() as client:
         action = client.start()
-        client.join(action, **member.addresses())
+        client.join(action, **member.addresses("compensate", "complete"))
         pid = service.process.pid
         used = len(os.listdir(f"/proc/{pid}/fd"))
         before = resource.prlimit(pid, resource.RLIMIT_NOFILE)
         resource.prlimit(pid, resource.RLIMIT_NOFILE, (used, before[1]))
         equal("the close", client.call("PUT", f"/lra-coordinator/{id_of(action)}/close").code, 202)
         time.sleep(LACKING)
-        equal("what was asked", member.asked(), [])
-        entries = journal.read(service.journal).decode().splitlines()
-        equal("the asks", len([line for line in entries if " ask " in line]), 1)
-        equal("what came of them", [line for line in entries if " reply " in line], [])
+        equal("what was asked", member.requests, [])
+        deeds = Counter(entry.deed for entry in journal.entries(service.journal))
+        equal("the asks, and what came of them", (deeds["ask"], deeds["reply"]), (1, 0))
         resource.prlimit(pid, resource.RLIMIT_NOFILE, before)
         wait_until("the end", lambda: client.status(action) == "Closed")
 
