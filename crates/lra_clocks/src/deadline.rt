@@ -1,4 +1,4 @@
-//! Moments until which something may take.
+//! Deadlines: moments until which something may take.
 
 ghost use Rattle.std.specs.Prelude.{◌≤◌, ◌<◌, ◌*◌, IfOk};
 ghost use Rattle.std.specs.Duration.{as_nanos};
@@ -8,8 +8,8 @@ use std::io;
 use std::io::ErrorKind;
 use std::time::{Clock, Duration, Instant};
 
-/// The moment so many seconds from now. Which moment a clock tells as now isn't known, and so of the result only how
-/// early it can be.
+/// Returns the moment that is so many seconds from now. The contract says only how early it can be, since nothing is
+/// known of the moment that a clock returns as now.
 pub fn seconds_on<R: Clock>(clock: &R, secs: u64) -> io::Result<Instant>
     ensures { IfOk result (λ end. secs * 1_000_000_000 ≤ instant_nanos end) }
 {
@@ -20,7 +20,7 @@ pub fn seconds_on<R: Clock>(clock: &R, secs: u64) -> io::Result<Instant>
     }
 }
 
-/// Returns the time until then, where that is some time: a socket takes no time-out of zero.
+/// Returns the time until a moment, or `TimedOut` once none is left: a socket accepts no time-out of zero.
 pub fn time_until<R: Clock>(clock: &R, end: Instant) -> io::Result<Duration>
     ensures some { IfOk result (λ left. 0 < as_nanos left) }
     ensures most { IfOk result (λ left. as_nanos left ≤ instant_nanos end) }

@@ -1,4 +1,4 @@
-//! Clocks: what tells the moments at which something happens, and the moments until which something may take.
+//! Clocks, which return the moments at which something happens, and deadlines, until which something may take.
 #![tactic(auto)]
 
 mod clock;

@@ -8,13 +8,13 @@ use crate::clock::Clock;
 use std::time;
 use std::time::{Duration, Instant, SystemTime, UNIX_EPOCH};
 
-/// The milliseconds since 1970, where the system's clock tells them.
+/// Returns the milliseconds since 1970, or nothing where the system's clock can't be read.
 pub fn milliseconds<R: time::Clock>(rt: &R) -> Option<u64> {
     let since = SystemTime::now(rt).ok()?.duration_since(UNIX_EPOCH).ok()?;
     u64::try_from(since.as_millis()).ok()
 }
 
-/// The moment to tell after another: the one that was read, but none that is earlier.
+/// Returns the moment that follows another: the one that was read, unless that is earlier.
 fn later(last: u64, read: Option<u64>) -> u64
     ensures { result ≡ max last (unwrap_or read last) }
 {
@@ -24,7 +24,7 @@ fn later(last: u64, read: Option<u64>) -> u64
     }
 }
 
-/// A moment, and the steady clock's when it was told.
+/// Moment, and what the steady clock returned at that moment.
 #[derive(Clone, Copy)]
 struct Anchor {
     moment: u64,
@@ -32,7 +32,7 @@ struct Anchor {
 }
 
 impl Anchor {
-    /// The moment once so much time has passed by the steady clock.
+    /// Returns the moment at which the steady clock returns `now`.
     fn moment_at(&self, now: Instant) -> Option<u64>
         ensures { IfSome result (λ moment. moment ≡ self.now.moment + (instant_nanos now - instant_nanos self.now.told)
             / 1_000_000) }
@@ -49,9 +49,10 @@ fn milliseconds_of(time: Duration) -> Option<u64>
     u64::try_from(time.as_millis()).ok()
 }
 
-/// The system's clock, in milliseconds since 1970. It goes on by the system's steady clock from the moment that it was
-/// given, and where the system's clock is ahead of that, from there. So it stands still only where neither can be read,
-/// and where the system's clock was set back, or the moment lies ahead of it, it goes on at its own pace.
+/// System's clock, in milliseconds since 1970. It goes on by the system's steady clock from the moment that it was
+/// given. Where the system's clock is ahead of that, it goes on from there. So it stands still only where neither can
+/// be read. Where the system's clock was set back, or is behind the moment that was given, it goes on at the steady
+/// clock's pace.
 #[derive(Drop)]
 pub struct SystemClock<'a, R> {
     rt: &'a R,
@@ -60,7 +61,7 @@ pub struct SystemClock<'a, R> {
 }
 
 impl<'a, R: time::Clock> SystemClock<'a, R> {
-    /// A clock that goes on from a moment.
+    /// Makes a clock that goes on from a moment.
     pub fn new(rt: &'a R, moment: u64) -> SystemClock<'a, R>
         ensures { result.last ≡ moment }
     {
@@ -73,7 +74,7 @@ impl<'a, R: time::Clock> SystemClock<'a, R> {
         clock
     }
 
-    /// From now on it goes on from that moment.
+    /// Sets the moment that the clock goes on from.
     fn set(&mut self, moment: u64)
         ensures { self.new.last ≡ self.old.last }
     {
@@ -83,7 +84,7 @@ impl<'a, R: time::Clock> SystemClock<'a, R> {
         };
     }
 
-    /// The moment by the steady clock.
+    /// Returns the moment by the steady clock.
     fn steady(&self) -> Option<u64> {
         let now = Instant::now(self.rt).ok()?;
         self.anchor?.moment_at(now)

@@ -1,4 +1,4 @@
--- What stays true of a callback that is carried.
+-- What stays true of a callback exchange.
 use Rattle.std.proofs.Common.{◌≡◌, ℕ, ◌+◌, ◌<◌, ◌≤◌, Bool, true, false, List, [], ◌∷◌, ◌++◌, length, drop, refl, sym}
 use Rattle.std.proofs.Common.{ap, subst, ◌∙◌, arith, Option, Some, None, Result, Ok, Err}
 use Rattle.std.specs.Prelude.{◌-◌, ◌||◌, if◌then◌else◌, is_some, IfSome, IsTrue}
@@ -61,7 +61,7 @@ replies_at_end failed kind direction bytes (Err Cut) h = λ more end. only bytes
 replies_at_end failed kind direction bytes (Err Memory) h = absurd (h.0 refl)
 replies_at_end failed kind direction bytes (Err Io) h = absurd (h.1 refl)
 
--- a response that is whole comes to this, whatever follows
+-- a response that is whole has this outcome, whatever follows
 pub whole_replies : (kind : AskKind) (direction : Direction) (bytes : List ℕ) (code : ℕ) (body : List ℕ) (len : ℕ)
     (outcome : Outcome) → IsWhole bytes code body len
     → outcome ≡ classify kind direction code body → IsTrue (outcome_suits kind outcome) → (more : List ℕ)
@@ -106,7 +106,7 @@ end_refuses bytes None fault e h = absurd cc
 end_refuses bytes (Some all) fault e h = let same : all ≡ bytes = cc in
     subst (λ (bs : List ℕ). RefusesResponse bs fault) same h
 
--- what is open awaits more
+-- a response that isn't whole awaits more bytes
 pub open_here : (bytes : List ℕ) (wanted : ℕ) → IsOpen bytes wanted → AwaitsResponse bytes × (length bytes < 1048576)
 open_here bytes wanted o = (
   subst AwaitsResponse (append-nil bytes)
@@ -114,7 +114,7 @@ open_here bytes wanted o = (
   omega (arith, o.few, o.bound),
 )
 
--- ---- what it came to stays
+-- ---- the result stays
 
 -- of what is later, no less is known
 replies_on : (closed later failed broken : Bool) (kind : AskKind) (direction : Direction) (bytes : List ℕ)
@@ -129,7 +129,7 @@ replies_on closed later failed broken kind direction bytes (Err Cut) c f h = λ 
 replies_on closed later failed broken kind direction bytes (Err Io) c f h = f h
 replies_on closed later failed broken kind direction bytes (Err Memory) c f h = h
 
--- one that goes on from another: it takes no bytes more, and what has happened stays so
+-- a history that goes on from another without accepting bytes: what has happened stays
 pub record Follows (old new : Carried) : Type 0 where
   pub kind : new.kind ≡ old.kind
   pub direction : new.direction ≡ old.direction
@@ -159,7 +159,7 @@ pub came_on : (old new : Carried) (came : Option (Result Outcome CallFault)) →
 came_on old new None f h = tt
 came_on old new (Some told) f h = comes_on old new told f h
 
--- no byte is taken once it came to something
+-- no byte is accepted once there is a result
 no_room : (a b : Bool) (n m : ℕ) → m ≤ (if a || b || true then 0 else n) → m ≡ 0
 no_room true true n m h = omega (arith, h)
 no_room true false n m h = omega (arith, h)
@@ -266,7 +266,7 @@ carried_tells h told c comes = record {
   }) comes;
 }
 
--- what a response comes to is an answer
+-- the outcome of a response is that of an answer
 pub reply_answers : (calling : Calling) (bytes rest : List ℕ) (outcome : Outcome)
     → IsReply calling.kind calling.direction bytes rest outcome → IsAnswer calling bytes rest outcome
 reply_answers calling bytes rest outcome r = record {

@@ -1,4 +1,4 @@
--- A request that went out, and the response to it.
+-- A request that was sent, and the response to it.
 use Rattle.std.proofs.Common.{◌≡◌, ℕ, List, [], Option, Some, None, IfSome, Result, Ok, Err, refl, sym, subst, ◌∙◌}
 use Rattle.std.specs.Result.{result_unwrap_or}
 use Rattle.std.specs.Io.KnownBytes.{Appends, Keeps}
@@ -20,7 +20,7 @@ answered c outcome None after h = tt
 answered c outcome (Some bytes) None h = absurd h
 answered c outcome (Some bytes) (Some rest) h = (rest, h)
 
--- a request that went out, and what the bytes of an inbox over the stream came to
+-- a request that was sent, and the result of the bytes of an inbox over the stream
 pub conversed : (old new stream kept : Option (List ℕ)) (c : Calling) (told : Result Outcome CallFault)
     → Appends old new (request_bytes c) → kept ≡ stream
     → Answers kept c told → Converses old new stream c told
@@ -40,7 +40,7 @@ grown_by_none None new h = tt
 grown_by_none (Some bytes) None h = absurd h
 grown_by_none (Some bytes) (Some after) h = h ∙ sym (append-nil bytes)
 
--- all of a text is some front of it
+-- all of a text is a prefix of it
 all_of : (old new : Option (List ℕ)) (text : List ℕ) → Appends old new text → AppendsSome old new text
 all_of old new text sent = (text, [], sym (append-nil text), sent)
 
@@ -56,7 +56,7 @@ silent old new stream c front = record {
   answer = λ loud. absurd (loud refl);
 }
 
--- where a fault counts as silence, some front of the request went out, and an answer came of all of it alone
+-- where a fault counts as Silent: a prefix of the request was written, and any other outcome needs all of it
 pub exchanged : (old new stream : Option (List ℕ)) (c : Calling) (told : Result Outcome CallFault)
     → Converses old new stream c told
     → Exchanges old new stream c (result_unwrap_or told Silent)

@@ -20,13 +20,13 @@ pub refused_is_none : (text : List ℕ) (fault : UriFault) → address_of text �
 unfolding is_address
 refused_is_none text fault e = ap (is_own text) e
 
--- nor is one that stands for another
+-- a text that is normalised to another text is no address
 pub other_is_none : (text own shown : List ℕ) → address_of text ≡ Ok own → shown ≡ own → bytes_eq shown text ≡ false
     → is_address text ≡ false
 unfolding is_address
 other_is_none text own shown e f h = ap (is_own text) e ∙ ap (λ bytes. bytes_eq bytes text) (sym f) ∙ h
 
--- one that stands for itself is an address
+-- a text that is normalised to itself is an address
 pub own_is_one : (text own shown : List ℕ) → address_of text ≡ Ok own → shown ≡ own → bytes_eq shown text ≡ true
     → is_address text ≡ true
 unfolding is_address
@@ -48,7 +48,7 @@ unwritten known text c BadAddress e other none = (Keeps-refl known, ap is_addres
 unwritten known text c Memory e other none = Keeps-refl known
 unwritten known text c Io e other none = absurd (other refl)
 
--- where the texts of fields lie says nothing of their lines
+-- the lines of fields don't depend on where the fields' texts lie in memory
 lines_seen : (fields : List (Bor (List ℕ) × Bor (List ℕ)))
     → flat_map field_line fields ≡ flat_map field_line (map (λ (field : Field). (lent field.0, lent field.1))
     (seen fields))

@@ -12,7 +12,7 @@ use Rattle.lra_commands.specs.Errands.{Asking}
 use Rattle.lra_wire.specs.declared.write.RequestWrite.{RequestWrite}
 use Rattle.lra_wire.specs.Writing.{request_text}
 
--- what an errand says to its member, and in which direction: the errand without the numbers that the coordinator keeps
+-- what a callback says to its member, and in which direction: an errand without the coordinator's own numbers
 pub record Calling : Type 0 where
   pub kind : AskKind
   pub direction : Direction
@@ -22,7 +22,7 @@ pub record Calling : Type 0 where
   pub recovery_uri : List ℕ
   pub ended : Option ActionStatus
 
--- what an errand says
+-- the callback of an errand
 abbrev pub calling_of : Asking → Calling
 calling_of e = record {
   kind = e.kind;
@@ -34,7 +34,7 @@ calling_of e = record {
   ended = e.ended;
 }
 
--- the method by kind (MicroProfile LRA 2.0: a status is asked for by GET, and a member is let forget by DELETE)
+-- the method by kind (MicroProfile LRA 2.0: GET asks for a status, and DELETE lets a member forget)
 abbrev pub method_of : AskKind → List ℕ
 method_of ask.Complete = codes "PUT"
 method_of ask.Compensate = codes "PUT"
@@ -62,7 +62,8 @@ abbrev pub parent_fields : Option (List ℕ) → List Field
 parent_fields None = []
 parent_fields (Some uri) = (codes "Long-Running-Action-Parent", uri) ∷ []
 
--- what a request says of its body, with that length: by PUT it has one, which may be empty (RFC 9110, section 8.6)
+-- the fields that describe a body of that length: a request by PUT has a body, which may be empty (RFC 9110, section
+-- 8.6)
 abbrev pub content_fields : AskKind → List ℕ → List Field
 content_fields ask.After size = (codes "Content-Type", codes "text/plain") ∷ (codes "Content-Length", size) ∷ []
 content_fields ask.Complete size = (codes "Content-Length", size) ∷ []
@@ -78,7 +79,7 @@ fields_of c =
     ++ (content_fields c.kind (decimal (length (body_of c.kind c.ended)))
     ++ ((codes "Connection", codes "close") ∷ []))))
 
--- a value as a writer is lent it: where it lies says nothing
+-- a value as a writer borrows it, wherever it lies in memory
 abbrev pub lent : {X : Type 0} → X → Bor X
 lent x = record { ref_ptr = (0, 0); now = x }
 

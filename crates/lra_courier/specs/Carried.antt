@@ -1,4 +1,4 @@
--- What was carried of a callback, and what is true of it.
+-- What was exchanged of a callback so far, and what is true of it.
 use Rattle.std.specs.Prelude.{◌≡◌, ℕ, ◌+◌, ◌-◌, ◌≤◌, Bool, true, false, ◌||◌, List, [], ◌++◌, length, Option, Some}
 use Rattle.std.specs.Prelude.{None, is_some, IfSome, Result, Ok, Err, IsTrue, if◌then◌else◌}
 use Rattle.lra_model.specs.declared.asks.AskKind.{AskKind}
@@ -14,22 +14,22 @@ use Rattle.lra_courier.specs.declared.fault.CallFault.TheVariants.{Unreached, Se
 use Rattle.lra_courier.specs.Callbacks.{Calling, request_bytes}
 use Rattle.lra_courier.specs.Replies.{classify}
 
--- all that was carried
+-- all that was exchanged
 pub record Carried : Type 0 where
-  -- what the member is asked
+  -- what the member is asked, and in which direction
   pub kind : AskKind
   pub direction : Direction
   pub request : List ℕ
-  -- how many bytes of the request were handed out
+  -- the number of bytes of the request that were sent
   pub gone : ℕ
-  -- all bytes that were taken, and whether no more come, and whether the stream has failed
+  -- all bytes that were accepted, whether no more come, and whether the stream has failed
   pub taken : List ℕ
   pub closed : Bool
   pub failed : Bool
-  -- what it came to
+  -- the result, once there is one
   pub came : Option (Result Outcome CallFault)
 
--- the bytes are a response and then the rest, and this is what the response comes to
+-- the bytes are a response and then the rest, and this is the outcome of the response
 pub record IsReply (kind : AskKind) (direction : Direction) (bytes rest : List ℕ) (outcome : Outcome) : Type 0 where
   pub code : ℕ
   pub body : List ℕ
@@ -37,12 +37,12 @@ pub record IsReply (kind : AskKind) (direction : Direction) (bytes rest : List �
   pub class : outcome ≡ classify kind direction code body
   pub suits : IsTrue (outcome_suits kind outcome)
 
--- It holds of each stream that begins with these bytes; and where no more come, of the one that ends with them.
+-- P holds of each stream that begins with these bytes. Where no more come, it holds of the one that ends with them.
 abbrev pub OfStream : Bool → List ℕ → (List ℕ → Type 0) → Type 0
 OfStream closed bytes P = (more : List ℕ) → (IsTrue closed → more ≡ []) → P (bytes ++ more)
 
--- What a stream that is behind a request comes to: the outcome of the response that it begins with, or why it begins
--- with none, or that it has failed.
+-- The result of the stream after a request: the outcome of the response that it begins with, or why it begins with
+-- none, or that it has failed.
 abbrev pub Replies : Bool → Bool → AskKind → Direction → List ℕ → Result Outcome WireFault → Type 0
 Replies closed failed kind direction bytes (Ok outcome) = OfStream closed bytes
     (λ stream. (rest : List ℕ) × IsReply kind direction stream rest outcome)
@@ -58,25 +58,25 @@ Replies closed failed kind direction bytes (Err Cut) = OfStream closed bytes (λ
 Replies closed failed kind direction bytes (Err Io) = IsTrue failed
 Replies closed failed kind direction bytes (Err Memory) = ⊥
 
--- all of the request was handed out
+-- all of the request was sent
 abbrev pub IsSent : Carried → Type 0
 IsSent h = h.gone ≡ length h.request
 
--- What it came to, as `Converses` has it of a request and its response: only where all of the request was handed out is
--- the response heard.
+-- The result, as `Converses` defines it for a request and its response: the response counts only where all of the
+-- request was sent.
 abbrev pub Comes : Carried → Result Outcome CallFault → Type 0
 Comes h (Ok outcome) = IsSent h × Replies h.closed h.failed h.kind h.direction h.taken (Ok outcome)
 Comes h (Err (Reply fault)) = IsSent h × Replies h.closed h.failed h.kind h.direction h.taken (Err fault)
 Comes h (Err (Send fault)) = (fault ≡ send.Io) × IsTrue h.failed
 Comes h (Err Unreached) = ⊥
 
--- True of every callback that is carried, after any calls.
+-- What is true of every callback exchange, after any calls.
 pub record IsCarried (h : Carried) : Type 0 where
   pub within : h.gone ≤ length h.request
   pub bound : length h.taken ≤ 1048576
   pub came : IfSome h.came (Comes h)
 
--- nothing is carried yet
+-- a callback of which nothing was exchanged yet
 abbrev pub begun : Calling → Carried
 begun calling = record {
   kind = calling.kind;
@@ -89,15 +89,15 @@ begun calling = record {
   came = None;
 }
 
--- how many bytes may be taken: no more are kept than the largest response takes (this project's choice)
+-- how many more bytes are accepted: no more are kept than the largest response has (this project's choice)
 abbrev pub room_of : Carried → ℕ
 room_of h = if h.closed || h.failed || is_some h.came then 0 else 1048576 - length h.taken
 
--- so many bytes of the request were handed out
+-- so many more bytes of the request were sent
 abbrev pub went : Carried → ℕ → Carried
 went h count = record h { gone = h.gone + count }
 
--- these bytes came
+-- these bytes were accepted
 abbrev pub took : Carried → List ℕ → Carried
 took h more = record h { taken = h.taken ++ more }
 
@@ -109,6 +109,6 @@ finished h = record h { closed = true }
 abbrev pub broken : Carried → Carried
 broken h = record h { failed = true }
 
--- it came to that
+-- the exchange has that result
 abbrev pub tells : Carried → Result Outcome CallFault → Carried
 tells h told = record h { came = Some told }

@@ -1,4 +1,4 @@
--- What a member's reply comes to (MicroProfile LRA 2.0, participant methods; which class a reply is of is this
+-- The outcome of a member's reply (MicroProfile LRA 2.0, participant methods; which outcome a reply has is this
 -- project's choice).
 use Rattle.std.specs.Prelude.{ℕ, ◌-◌, Bool, ◌&&◌, ◌||◌, ◌==◌, nat_le, nat_lt, if◌then◌else◌, List, [], ◌∷◌, length}
 use Rattle.std.specs.Prelude.{reverse, slice_index, slice_range, bytes_eq, Option}
@@ -14,7 +14,7 @@ use Rattle.lra_model.specs.declared.asks.Outcome.{Outcome}
 use Rattle.lra_model.specs.declared.asks.Outcome.TheVariants as outcome
 use Rattle.lra_model.specs.Names.{member_status_name}
 
--- ---- what a body says
+-- ---- the body of a reply
 
 -- a space, a tab, CR or LF (this project's choice)
 abbrev pub is_blank : ℕ → Bool
@@ -33,7 +33,7 @@ trimmed bytes = reverse (skip_blanks (reverse (skip_blanks bytes)))
 abbrev pub is_quoted : List ℕ → Bool
 is_quoted bytes = nat_le 2 (length bytes) && (slice_index bytes 0 == 34 && slice_index bytes (length bytes - 1) == 34)
 
--- the bytes between the two, where they are there
+-- the bytes between the two quotes, where both are there, and else all of them
 abbrev pub unquoted : List ℕ → List ℕ
 unquoted bytes = if is_quoted bytes then slice_range bytes 1 (length bytes - 1) else bytes
 
@@ -50,7 +50,7 @@ states = member.Active ∷ member.Completing ∷ member.Completed ∷ member.Fai
 abbrev pub state_named : List ℕ → Option MemberStatus
 state_named text = find (λ state. bytes_eq text (member_status_name state)) states
 
--- what a member's state comes to in a direction: one of another direction, or of none, says nothing (this project's
+-- the outcome of a member's state in a direction: a state of another direction, or of none, is Silent (this project's
 -- choice)
 abbrev pub outcome_in : Direction → MemberStatus → Outcome
 outcome_in direction.Completion member.Completing = outcome.Accepted
@@ -61,17 +61,17 @@ outcome_in direction.Compensation member.Compensated = outcome.Done
 outcome_in direction.Compensation member.FailedToCompensate = outcome.Failed
 outcome_in _ _ = outcome.Silent
 
--- what a body comes to: what the state that it names does in the direction, and where it names none, `otherwise`
+-- the outcome of a body: that of the state that it names in the direction, or `otherwise` where it names none
 abbrev pub said : Direction → List ℕ → Outcome → Outcome
 said way body otherwise = option_map_or (outcome_in way) (state_named (text_in body)) otherwise
 
 -- ---- the table
 
--- a row: whether it is about this reply, and what the reply then comes to
+-- a row: whether it is about this reply, and the outcome that the reply then has
 abbrev pub Row : Type 0
 Row = Bool × Outcome
 
--- the first row that is about the reply decides, and where there is none the reply says nothing
+-- the first row that is about the reply decides; where there is none, the outcome is Silent
 abbrev pub first_row : List Row → Outcome
 first_row [] = outcome.Silent
 first_row (row ∷ rows) = if row.0 then row.1 else first_row rows
@@ -93,7 +93,7 @@ status_rows way code body =
     ∷ (code == 410, outcome.Done)
     ∷ []
 
--- a reply to forget or after: it went well, or the member is no longer there (MicroProfile LRA 2.0, forget and
+-- a reply to forget or after: it succeeded, or the member is no longer there (MicroProfile LRA 2.0, forget and
 -- AfterLRA)
 abbrev pub notice_rows : ℕ → List Row
 notice_rows code = ((nat_le 200 code && nat_lt code 300) || code == 410, outcome.Done) ∷ []
@@ -106,6 +106,6 @@ rows_of ask.Status way code body = status_rows way code body
 rows_of ask.Forget way code body = notice_rows code
 rows_of ask.After way code body = notice_rows code
 
--- what a reply of this code and body comes to, where a member was asked for the kind in the direction
+-- the outcome of a reply of this code and body, where a member was asked for the kind in the direction
 unfoldable pub classify : AskKind → Direction → ℕ → List ℕ → Outcome
 classify kind way code body = first_row (rows_of kind way code body)

@@ -1,4 +1,4 @@
--- The text by which the socket of an address is found.
+-- The text of an address's socket.
 use Rattle.std.specs.Prelude.{ℕ, List, ◌++◌, codes}
 use Rattle.std.specs.Option.{option_map_or}
 use Rattle.lra_ids.specs.Addresses.{authority_of, port_of}

@@ -1,4 +1,4 @@
--- Words that private functions and proofs alone use.
+-- Definitions that only private functions and proofs use.
 pub mod Fields
 pub mod Holding
 pub mod Told

@@ -10,20 +10,21 @@ use lra_model::{ActionStatus, AskKind, Direction};
 use std::alloc::{AllocError, Global};
 use std::marker::Model;
 
-/// The contents of an errand to its member, and their direction. A contract sees it without where its texts lie.
+/// Contents of an errand to its member, and their direction. A contract sees the texts, and not where they lie in
+/// memory.
 #[derive(Debug, Drop)]
 pub struct Callback<'a> {
     pub kind: AskKind,
     pub direction: Direction,
-    /// Where the member is asked.
+    /// Address at which the member is asked.
     pub address: &'a str,
-    /// The URI of the member's action.
+    /// URI of the member's action.
     pub action_uri: &'a str,
-    /// The URI of that action's parent, where it has one.
+    /// URI of that action's parent, if it has one.
     pub parent_uri: Option<&'a str>,
-    /// The member's recovery URI.
+    /// Member's recovery URI.
     pub recovery_uri: &'a str,
-    /// The status in which the action ended, at an after notice.
+    /// Status in which the action ended, at an after notice.
     pub ended: Option<ActionStatus>,
 }
 
@@ -44,7 +45,7 @@ impl<'a> Model for Callback<'a> {
     } };
 }
 
-// The name of the field with the action's URI.
+// Returns the name of the field with the action's URI.
 fn context_name(kind: AskKind) -> &'static str
     ensures { result.now ≡ spec.context_name kind }
 {
@@ -54,7 +55,7 @@ fn context_name(kind: AskKind) -> &'static str
     }
 }
 
-// The method of a request.
+// Returns the method of a request.
 pub(crate) fn method_of(kind: AskKind) -> &'static str
     ensures { result.now ≡ spec.method_of kind }
 {
@@ -65,7 +66,7 @@ pub(crate) fn method_of(kind: AskKind) -> &'static str
     }
 }
 
-// Adds a field.
+// Appends a field.
 fn push<'a>(
     fields: &mut Vec<(&'a str, &'a str)>,
     name: &'a str,
@@ -77,7 +78,7 @@ fn push<'a>(
     Ok(())
 }
 
-// Adds what the request says of its body.
+// Appends the fields that describe the request's body.
 fn push_content<'a>(
     fields: &mut Vec<(&'a str, &'a str)>,
     kind: AskKind,
@@ -97,7 +98,7 @@ fn push_content<'a>(
     }
 }
 
-// Adds the field with the parent's URI, where there is one.
+// Appends the field with the parent's URI, if there is one.
 fn push_parent<'a>(
     fields: &mut Vec<(&'a str, &'a str)>,
     parent_uri: Option<&'a str>,
@@ -112,7 +113,7 @@ fn push_parent<'a>(
 }
 
 impl<'a> Callback<'a> {
-    /// Returns what an errand says.
+    /// Returns the callback of an errand.
     pub fn of(errand: &'a Errand) -> Callback<'a>
         ensures { result ≡ spec.calling_of errand.now }
     {
@@ -127,7 +128,7 @@ impl<'a> Callback<'a> {
         }
     }
 
-    // The body of the request.
+    // Returns the body of the request.
     pub(crate) fn body(&self) -> &'static str
         ensures { result.now ≡ spec.body_of self.now.kind self.now.ended }
     {
@@ -140,7 +141,8 @@ impl<'a> Callback<'a> {
         }
     }
 
-    // The fields of the request, where that is the host and that the length of the body.
+    // Makes the fields of the request. `host` is the address's host and port, and `size` the length of the body in
+    // digits.
     pub(crate) fn fields<'b>(
         &'b self,
         alloc: Global,

@@ -16,7 +16,7 @@ use lra_ids::Address;
 use lra_model::Outcome;
 use std::alloc::Global;
 
-/// Carries errands over the connections that a dialler opens, one each.
+/// Courier over the connections that a dialler opens, one for each errand.
 #[derive(Drop)]
 pub struct DiallingCourier<D> {
     pub(crate) dialler: D,
@@ -24,14 +24,14 @@ pub struct DiallingCourier<D> {
 }
 
 impl<D: Dialler> DiallingCourier<D> {
-    /// A courier over the connections of this dialler.
+    /// Makes a courier over the connections of a dialler.
     pub fn over(dialler: D, alloc: Global) -> DiallingCourier<D>
         ensures { result.dialler ≡ dialler }
     {
         DiallingCourier { dialler, alloc }
     }
 
-    /// Carries a callback out, over a connection to the socket of its address, and tells what came of it.
+    /// Makes a callback over a connection to the socket of its address. Returns its outcome, or its fault.
     pub fn try_call(&self, callback: &Callback<'_>) -> Result<Outcome, CallFault>
         ensures calls { Calls D.gives D.Stream.contents D.Stream.remaining self.now.dialler callback.now result }
         ensures suits { IfOk result (λ outcome. IsTrue (outcome_suits callback.now.kind outcome)) }
@@ -42,7 +42,7 @@ impl<D: Dialler> DiallingCourier<D> {
         }
     }
 
-    /// The same, where the callback's address has been read.
+    /// Does the same as [`try_call`](DiallingCourier::try_call), where the callback's address has been read.
     fn call_at(&self, to: &Address, callback: &Callback<'_>) -> Result<Outcome, CallFault>
         requires to { to.now ≡ callback.now.address }
         requires address { is_address to.now ≡ true }
@@ -55,7 +55,7 @@ impl<D: Dialler> DiallingCourier<D> {
         }
     }
 
-    /// The same, where any fault is [`Outcome::Silent`].
+    /// Does the same as [`try_call`](DiallingCourier::try_call), where any fault is [`Outcome::Silent`].
     pub fn call(&self, callback: &Callback<'_>) -> Outcome
         ensures calls { ComesOf (Calls D.gives D.Stream.contents D.Stream.remaining self.now.dialler callback.now)
             result }
@@ -67,7 +67,7 @@ impl<D: Dialler> DiallingCourier<D> {
         }
     }
 
-    /// A connection to the socket of an address.
+    /// Opens a connection to the socket of an address.
     fn reach(&self, to: &Address) -> Result<D::Stream, CallFault>
         requires { is_address to.now ≡ true }
         ensures ok { IfOk result (λ stream. Reaches D.gives self.now.dialler to.now stream) }

@@ -34,27 +34,27 @@ use lra_wire::{MAX_RESPONSE, SeenResponse};
 use std::alloc::{AllocError, Global};
 use std::marker::Model;
 
-/// The step that stands next.
+/// Step that comes next.
 #[derive(Clone, Copy, Debug, PartialEq, Eq)]
 pub enum Step {
-    /// Bytes of the request are to be handed out.
+    /// Bytes of the request have to be sent.
     Sends,
-    /// More bytes of the response are wanted.
+    /// More bytes of the response have to come.
     Wants,
-    /// The result of the callback: it stays so.
+    /// Result of the callback, which doesn't change any more.
     Came(Result<Outcome, CallFault>),
 }
 
-/// A callback, as steps. A contract sees what was carried of it.
+/// Callback exchange, as steps. A contract sees what was exchanged so far.
 #[derive(Drop)]
 pub struct Carrying {
     alloc: Global,
     asked: Asked,
     request: Vec<u8>,
-    /// The number of bytes of the request that were handed out.
+    /// Number of bytes of the request that were sent.
     gone: usize,
     kept: Vec<u8>,
-    /// The findings on what is kept, so that it isn't read anew with each piece.
+    /// Findings on the bytes that are kept, so that they aren't read anew with each piece.
     seen: SeenResponse,
     closed: bool,
     failed: bool,
@@ -74,7 +74,7 @@ impl Model for Carrying {
 }
 
 impl Carrying {
-    /// A callback of which nothing is carried yet.
+    /// Begins a callback exchange, of which nothing is sent yet.
     pub fn new(alloc: Global, callback: &Callback<'_>) -> Result<Carrying, SendFault>
         ensures ok { IfOk result (λ made. made ≡ begun callback.now) }
         ensures address { result ≡ Err SendFault.BadAddress → is_address callback.now.address ≡ false }
@@ -87,13 +87,13 @@ impl Carrying {
         }
     }
 
-    /// The same, where the callback's address has been read.
+    /// Does the same as [`new`](Carrying::new), where the callback's address has been read.
     pub fn at(alloc: Global, to: &Address, callback: &Callback<'_>) -> Result<Carrying, Memory>
         requires { to.now ≡ callback.now.address }
         ensures { IfOk result (λ made. made ≡ begun callback.now) }
     {
         let mut request = Vec::new(alloc);
-        // A list takes all bytes, unless memory is refused.
+        // A list accepts all bytes, unless memory is refused.
         if callback.send_to(alloc, to, &mut request).is_err() {
             return Err(AllocError);
         }
@@ -113,21 +113,21 @@ impl Carrying {
         })
     }
 
-    /// Says what is true of every callback that is carried.
+    /// States what is true of every callback exchange.
     pub fn carried(&self)
         ensures { IsCarried self.now }
     {
         let _gone = self.gone;
     }
 
-    /// The bytes of the request that may be handed out.
+    /// Returns the bytes of the request that may be sent.
     pub fn out(&self) -> &[u8]
         ensures { result.now ≡ drop self.now.gone self.now.request }
     {
         &self.request.as_slice()[self.gone..]
     }
 
-    /// So many of them were handed out.
+    /// Notes that so many more bytes of the request were sent.
     pub fn gone(&mut self, count: usize)
         requires { count ≤ length (drop self.old.gone self.old.request) }
         ensures { self.new ≡ went self.old count }
@@ -135,7 +135,7 @@ impl Carrying {
         self.gone += count;
     }
 
-    /// Returns how many bytes may be taken.
+    /// Returns how many more bytes the exchange accepts.
     pub fn room(&self) -> usize
         ensures { result ≡ room_of self.now }
     {
@@ -146,7 +146,7 @@ impl Carrying {
         }
     }
 
-    /// These bytes came, if there is room for them: else they aren't taken.
+    /// Accepts bytes that came, if there is room for all of them. Returns whether it did.
     pub fn take(&mut self, bytes: &[u8]) -> Result<bool, Memory>
         ensures { Takes result bytes.now self.old self.new }
     {
@@ -157,21 +157,21 @@ impl Carrying {
         Ok(true)
     }
 
-    /// No more bytes come.
+    /// Notes that no more bytes come.
     pub fn ended(&mut self)
         ensures { self.new ≡ finished self.old }
     {
         self.closed = true;
     }
 
-    /// The stream has failed: no byte goes or comes any more.
+    /// Notes that the stream has failed: no byte is sent or comes any more.
     pub fn failed(&mut self)
         ensures { self.new ≡ broken self.old }
     {
         self.failed = true;
     }
 
-    /// The next step. Where memory is refused nothing changes.
+    /// Returns the next step. Where memory is refused, nothing changes.
     pub fn next(&mut self) -> Result<Step, Memory>
         ensures { Steps result self.old self.new }
     {
@@ -198,7 +198,7 @@ impl Carrying {
         }
     }
 
-    /// Returns what it came to, where it came to something: any fault is [`Outcome::Silent`].
+    /// Returns the outcome of the exchange, once it has a result. Any fault is [`Outcome::Silent`].
     pub fn outcome(&self) -> Option<Outcome>
         ensures comes { result ≡ option_map (λ told. result_unwrap_or told Outcome.Silent) self.now.came }
         ensures suits { IfSome result (λ outcome. IsTrue (outcome_suits self.now.kind outcome)) }
@@ -210,15 +210,15 @@ impl Carrying {
         }
     }
 
-    /// Returns what it came to, where it came to something.
+    /// Returns the result of the exchange, once it has one.
     pub fn told(&self) -> Option<Result<Outcome, CallFault>>
         ensures { result ≡ self.now.came }
     {
         self.came
     }
 
-    /// Returns the code of the response whose outcome it came to. What was taken is read anew for it: it is for what an
-    /// outcome doesn't tell. Where memory is refused the call may be made again.
+    /// Returns the code of the response that the outcome is of, where there is one. It is for what an outcome doesn't
+    /// say. It reads the accepted bytes anew. Where memory is refused, the call may be made again.
     pub fn code(&self) -> Result<Option<u16>, Memory>
         ensures { IfOk result (λ code. IfSome code (IsCoded self.now)) }
     {
@@ -228,7 +228,7 @@ impl Carrying {
         }
     }
 
-    /// It came to that.
+    /// Notes the result of the exchange, and returns it as a step.
     fn tell(&mut self, told: Result<Outcome, CallFault>) -> Step
         requires { Comes self.old told }
         ensures new { self.new ≡ tells self.old told }
@@ -239,7 +239,7 @@ impl Carrying {
     }
 }
 
-/// Says that what a response comes to is what it comes to for [`Callback::exchange`].
+/// States that a response has the outcome here that it has for [`Callback::exchange`].
 pub fn replies_are_answers()
     ensures { (calling : Calling) (bytes rest : List ℕ) (outcome : Outcome)
         → IsReply calling.kind calling.direction bytes rest outcome → IsAnswer calling bytes rest outcome }

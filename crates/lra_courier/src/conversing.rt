@@ -14,7 +14,7 @@ use std::alloc::Global;
 use std::io::{Read, Write};
 
 impl<'a> Callback<'a> {
-    // Reads the response, once the request was sent.
+    // Reads the response to the request, which was sent, and returns its outcome.
     pub(crate) fn answer<R: Read + Drop>(
         &self,
         alloc: Global,
@@ -30,7 +30,7 @@ impl<'a> Callback<'a> {
         }
     }
 
-    // The same of a stream that the request was written to.
+    // Does the same as `answer` for a stream that the request was written to.
     fn answer_of<R: Read + Drop>(&self, alloc: Global, stream: R) -> Result<Outcome, CallFault>
         ensures answers { Answers (R.remaining stream) self.now result }
         ensures suits { IfOk result (λ outcome. IsTrue (outcome_suits self.now.kind outcome)) }
@@ -41,8 +41,7 @@ impl<'a> Callback<'a> {
         self.answer(alloc, &mut inbox)
     }
 
-    // Writes the request to a stream, reads the response from what the stream then has left, and tells what it comes
-    // to, where the member's address has been read.
+    // Does the same as `converse`, where the member's address has been read.
     pub(crate) fn converse_at<S: Read + Write + Drop>(
         &self,
         alloc: Global,
@@ -61,8 +60,7 @@ impl<'a> Callback<'a> {
         }
     }
 
-    /// Writes the request to a stream, reads the response from what the stream then has left, and tells what it comes
-    /// to.
+    /// Writes the request to a stream, reads the response from what the stream then has left, and returns its outcome.
     pub fn converse<S: Read + Write + Drop>(
         &self,
         alloc: Global,

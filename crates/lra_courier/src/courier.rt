@@ -8,16 +8,17 @@ ghost use Rattle.lra_model.specs.Words.{outcome_suits};
 use lra_core::Errand;
 use lra_model::Outcome;
 
-/// A courier: it carries errands to members.
+/// Courier, which carries errands to members.
 pub trait Courier {
-    // Which outcomes it may answer for an ask of this number and kind.
+    // The outcomes that it may return for an ask of this number and kind.
     ghost gives: { ℕ → AskKind → Outcome → Type 0 };
 
-    /// Carries an errand out, and answers what came of it: where nothing did, [`Outcome::Silent`].
+    /// Carries an errand to its member, and returns the outcome. Where the callback failed, that is
+    /// [`Outcome::Silent`].
     fn carry(&mut self, errand: &Errand) -> Outcome
         ensures { gives errand.now.ask errand.now.kind result };
 
-    // Whatever it answers suits the kind.
+    // Every outcome suits the ask's kind.
     ghost suits: { (ask : ℕ) (kind : AskKind) (outcome : Outcome) → gives ask kind outcome → outcome_suits kind outcome
         ≡ true };
 }

@@ -16,8 +16,8 @@ use std::alloc::Global;
 use std::io::{Read, Write};
 
 impl<'a> Callback<'a> {
-    /// Writes the request, reads the response, and tells what it comes to. Where memory for the response is refused,
-    /// nothing is written.
+    /// Writes the request, reads the response, and returns its outcome. Where memory for the response's inbox is
+    /// refused, nothing is written.
     pub fn try_exchange<R: Read + Drop, W: Write>(
         &self,
         alloc: Global,
@@ -37,7 +37,7 @@ impl<'a> Callback<'a> {
         }
     }
 
-    /// Writes the request, reads the response, and says what it comes to: any fault is [`Outcome::Silent`].
+    /// Writes the request, reads the response, and returns its outcome. Any fault is [`Outcome::Silent`].
     pub fn exchange<R: Read + Drop, W: Write>(
         &self,
         alloc: Global,
@@ -64,7 +64,7 @@ pub fn send<W: Write>(alloc: Global, writer: &mut W, errand: &Errand) -> Result<
     Callback::of(errand).send(alloc, writer)
 }
 
-/// Reads the response to an errand's request, and says what it comes to: any fault is [`Outcome::Silent`].
+/// Reads the response to an errand's request, and returns its outcome. Any fault is [`Outcome::Silent`].
 pub fn receive<R: Read + Drop>(alloc: Global, inbox: &mut Inbox<R>, errand: &Errand) -> Outcome
     ensures answer { (result ≡ Outcome.Silent) ⊎ IfBothKnown (stream_of R.remaining inbox.old)
         (stream_of R.remaining inbox.new)
@@ -77,7 +77,8 @@ pub fn receive<R: Read + Drop>(alloc: Global, inbox: &mut Inbox<R>, errand: &Err
     }
 }
 
-/// Carries an errand out over one connection: any fault of writing, reading or memory is [`Outcome::Silent`].
+/// Carries an errand to its member over one connection, and returns the outcome. Any fault of writing, reading or
+/// memory is [`Outcome::Silent`].
 pub fn exchange<R: Read + Drop, W: Write>(
     alloc: Global,
     reader: R,

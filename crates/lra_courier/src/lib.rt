@@ -1,4 +1,4 @@
-//! Callbacks to members: an errand's request on the wire, and what the reply comes to.
+//! Callbacks to members: an errand's request on the wire, and the outcome of the reply.
 #![tactic(auto)]
 
 mod callback;

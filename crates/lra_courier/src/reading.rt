@@ -1,4 +1,4 @@
-//! The half that reads.
+//! The half of a callback that reads.
 
 ghost use Rattle.std.specs.Prelude.{◌≡◌, Err, IfOk, IfErr, IfSome, OnOk, OnErr, IsTrue, IsFalse};
 ghost use Rattle.lra_model.specs.Words.{outcome_suits};
@@ -15,7 +15,7 @@ use std::alloc::Global;
 use std::io::Read;
 
 impl<'a> Callback<'a> {
-    /// Reads the response and says what it comes to. After a fault nothing more is read.
+    /// Reads the response and returns its outcome. After a fault nothing more is read.
     pub fn receive<R: Read + Drop>(
         &self,
         alloc: Global,
@@ -31,7 +31,8 @@ impl<'a> Callback<'a> {
         ensures ok { OnOk result (IsFalse (is_spent inbox.new)) }
         ensures err { OnErr result (IsTrue (is_spent inbox.new)) }
 
-        // Where the bytes that came spell a response, no more is asked for, unless its body ends with the stream.
+        // Where the bytes that came spell a response, the reader isn't asked for more, unless the response's body ends
+        // with the stream.
         ensures rests { AsksAt AwaitsResponse inbox.old inbox.new }
     {
         let response = read_response(alloc, inbox)?;

@@ -6,7 +6,7 @@ ghost use Rattle.lra_courier.specs.Replies as spec;
 
 use lra_model::{AskKind, Direction, MemberStatus, Outcome};
 
-// A space, a tab, CR or LF.
+// Returns whether a byte is a space, a tab, CR or LF.
 fn is_blank(b: u8) -> bool
     ensures { result ≡ spec.is_blank b }
 {
@@ -34,7 +34,7 @@ fn trim_end(bytes: &[u8]) -> &[u8]
     &bytes[..end]
 }
 
-// The bytes without a quote at each end, where both are there.
+// Returns the bytes without a quote at each end, where both are there.
 fn unquoted(bytes: &[u8]) -> &[u8]
     ensures { result.now ≡ spec.unquoted bytes.now }
 {
@@ -44,7 +44,8 @@ fn unquoted(bytes: &[u8]) -> &[u8]
     }
 }
 
-// The state that the text names, if it does: a member that has left isn't asked.
+// Returns the state that the text names, if it names one. The state of having left isn't among them, since a member
+// that has left isn't asked.
 fn state_named(text: &[u8]) -> Option<MemberStatus>
     ensures { result ≡ spec.state_named text.now }
 {
@@ -63,7 +64,7 @@ fn state_named(text: &[u8]) -> Option<MemberStatus>
         .find(|state| text == state.name().as_bytes())
 }
 
-// What a state comes to in a direction.
+// Returns the outcome of a state in a direction.
 fn outcome_in(direction: Direction, state: MemberStatus) -> Outcome
     ensures { result ≡ spec.outcome_in direction state }
 {
@@ -78,7 +79,7 @@ fn outcome_in(direction: Direction, state: MemberStatus) -> Outcome
     }
 }
 
-// What the state that a body names comes to, or that outcome where it names none.
+// Returns the outcome of the state that a body names, or `otherwise` where it names none.
 fn said(direction: Direction, body: &[u8], otherwise: Outcome) -> Outcome
     ensures { result ≡ spec.said direction body.now otherwise }
 {
@@ -88,9 +89,9 @@ fn said(direction: Direction, body: &[u8], otherwise: Outcome) -> Outcome
     }
 }
 
-/// Returns what a reply comes to where a member was asked for `kind` in `direction`. What isn't in the table of replies
-/// is [`Outcome::Silent`]. The body counts without spaces, tabs, CR and LF at its ends, and then without one enclosing
-/// pair of quotes.
+/// Returns the outcome of a reply, where a member was asked for `kind` in `direction`. A reply that isn't in the table
+/// of replies is [`Outcome::Silent`]. The body is read without spaces, tabs, CR and LF at its ends, and then without
+/// one enclosing pair of quotes.
 #[tactic(auto, unfolding(crate::specs::Replies::classify))]
 pub fn classify(kind: AskKind, direction: Direction, code: u16, body: &[u8]) -> Outcome
     ensures class { result ≡ spec.classify kind direction code body.now }

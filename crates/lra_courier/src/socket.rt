@@ -1,4 +1,4 @@
-//! The text by which the socket of an address is found.
+//! The text of an address's socket.
 
 ghost use Rattle.std.specs.Prelude.{◌≡◌, IfOk, string_bytes};
 ghost use Rattle.lra_courier.specs.Sockets.{socket_text};
@@ -6,7 +6,7 @@ ghost use Rattle.lra_courier.specs.Sockets.{socket_text};
 use lra_ids::Address;
 use std::alloc::{AllocError, Global};
 
-/// Host, `:` and port of an address: port 80 where it names none.
+/// Returns the host of an address, `:`, and its port, which is 80 where the address names none.
 pub fn socket_text(alloc: Global, to: &Address) -> Result<String, AllocError>
     ensures { IfOk result (λ text. string_bytes text ≡ socket_text to.now) }
 {

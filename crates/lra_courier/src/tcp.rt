@@ -11,13 +11,13 @@ use std::io::{Read, Write};
 use std::net::{Net, OpenStream, SocketAddr, TcpStream, ToSocketAddrs};
 use std::time::{Clock, Instant};
 
-/// The seconds that a member has to take the connection.
+/// Seconds that a member has to accept the connection.
 const CONNECT_SECS: u64 = 5;
 
-/// The seconds that there are in all, until the whole reply has come.
+/// Seconds in all until the whole reply has to have come.
 const REPLY_SECS: u64 = 30;
 
-/// A stream that is read and written until a moment, and fails from then on.
+/// Stream that can be read and written until a moment, and fails from then on.
 #[derive(Drop)]
 pub struct Timed<S, R> {
     stream: S,
@@ -45,15 +45,15 @@ impl<S: Write + OpenStream, R: Clock> Write for Timed<S, R> {
     }
 }
 
-/// Opens connections over the system's sockets. A peer has 5 s to take one, and 30 s in all until its whole reply has
-/// come: from then on the stream fails. The look-up of a host's name is the system's, and has no such limit.
+/// Dialler over the system's sockets. A peer has 5 s to accept a connection, and 30 s in all until its whole reply has
+/// come. From then on the stream fails. The system looks up the host's name, with no such limit.
 #[derive(Clone, Copy)]
 pub struct Sockets<R> {
     rt: R,
 }
 
 impl<R: Net + Clock> Sockets<R> {
-    /// A connection to the first address of a socket that takes one.
+    /// Opens a connection to the first address of a socket that accepts one.
     fn connect(&self, socket: &str) -> Option<R::Stream> {
         let end = seconds_on(&self.rt, CONNECT_SECS).ok()?;
         for addr in socket.to_socket_addrs(&self.rt).ok()? {
@@ -77,7 +77,7 @@ impl<R: Net + Clock + Copy> Dialler for Sockets<R> {
 
     type Stream = Timed<R::Stream, R>;
 
-    // Of the network nothing is known.
+    // Nothing is known of the network.
     ghost gives = { λ _ _ _. ⊤ };
 
     fn dial(&self, socket: &str) -> Option<Timed<R::Stream, R>> {
@@ -91,12 +91,12 @@ impl<R: Net + Clock + Copy> Dialler for Sockets<R> {
     }
 }
 
-/// Carries errands over TCP, a connection each. A member has 5 s to take the connection, and 30 s in all until its
-/// whole reply has come; then the outcome is [`Outcome::Silent`](lra_model::Outcome::Silent).
+/// Courier over TCP, with a connection for each errand. A member has 5 s to accept the connection, and 30 s in all
+/// until its whole reply has come. After that the outcome is [`Outcome::Silent`](lra_model::Outcome::Silent).
 pub type TcpCourier<R> = DiallingCourier<Sockets<R>>;
 
 impl<R: Net + Clock + Copy> DiallingCourier<Sockets<R>> {
-    /// A courier over the system's sockets.
+    /// Makes a courier over the system's sockets.
     pub fn new(rt: R, alloc: Global) -> TcpCourier<R>
         ensures { result.dialler.rt ≡ rt }
     {

@@ -1,4 +1,4 @@
-//! The outcome of the bytes behind a request.
+//! The outcome of the bytes that come after a request.
 ghost use Rattle.std.specs.Prelude.{◌≡◌, true, false, IfOk, IfSome, IsTrue};
 ghost use Rattle.lra_courier.specs.Replies.{classify};
 ghost use Rattle.lra_model.specs.Words.{outcome_suits};
@@ -14,15 +14,15 @@ use lra_wire::{
 };
 use std::alloc::{AllocError, Global};
 
-/// The kind and direction that were asked for.
+/// Kind and direction that were asked for.
 #[derive(Clone, Copy)]
 pub(crate) struct Asked {
     pub kind: AskKind,
     pub direction: Direction,
 }
 
-/// Returns what the bytes that came so far come to, or nothing where more are wanted. What was seen of them isn't read
-/// anew.
+/// Returns the outcome of the response that the bytes so far begin with, or its fault, or nothing where more bytes are
+/// wanted. It doesn't read anew what was seen of them.
 fn told_so_far(
     alloc: Global,
     bytes: &[u8],
@@ -45,7 +45,7 @@ fn told_so_far(
     }
 }
 
-/// Returns what a stream that ends with these bytes comes to.
+/// Returns the outcome of the response of a stream that ends with these bytes, or its fault.
 fn told_at_end(
     alloc: Global,
     bytes: &[u8],
@@ -57,7 +57,7 @@ fn told_at_end(
     match read_response(alloc, &mut inbox) {
         Ok(response) => Ok(Ok(asked.outcome(&response))),
         Err(fault) => {
-            // Bytes in memory don't fail to be read.
+            // Reading bytes in memory doesn't fail with `Io`.
             if fault == WireFault::Memory || fault == WireFault::Io {
                 return Err(AllocError);
             }
@@ -66,7 +66,8 @@ fn told_at_end(
     }
 }
 
-/// Returns what the bytes behind a request come to, or nothing where more are wanted and may come.
+/// Returns the outcome of the bytes after a request, or their fault, or nothing where more bytes are wanted and may
+/// come.
 pub(crate) fn look(
     alloc: Global,
     bytes: &[u8],
@@ -91,7 +92,7 @@ pub(crate) fn look(
     Ok(None)
 }
 
-/// Returns the code of the response that bytes begin with, if it is whole before their end.
+/// Returns the code of the response that bytes begin with, if it is whole whatever follows them.
 fn code_ahead(alloc: Global, bytes: &[u8]) -> Result<Option<u16>, Memory>
     ensures { IfOk result (λ code. IfSome code (HasCode false bytes.now)) }
 {
@@ -102,7 +103,7 @@ fn code_ahead(alloc: Global, bytes: &[u8]) -> Result<Option<u16>, Memory>
     }
 }
 
-/// Returns the code of the response of a stream that ends with these bytes, if they are one.
+/// Returns the code of the response of a stream that ends with these bytes, if it begins with one.
 fn code_at_end(alloc: Global, bytes: &[u8]) -> Result<Option<u16>, Memory>
     ensures { IfOk result (λ code. IfSome code (HasCode true bytes.now)) }
 {
@@ -114,7 +115,8 @@ fn code_at_end(alloc: Global, bytes: &[u8]) -> Result<Option<u16>, Memory>
     }
 }
 
-/// Returns the code of the response that bytes begin with, where no more of them may come if they are closed.
+/// Returns the code of the response that bytes begin with, if they begin with one. No more bytes come where `closed` is
+/// set.
 pub(crate) fn code_of(alloc: Global, bytes: &[u8], closed: bool) -> Result<Option<u16>, Memory>
     ensures { IfOk result (λ code. IfSome code (HasCode closed bytes.now)) }
 {

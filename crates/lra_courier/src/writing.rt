@@ -1,4 +1,4 @@
-//! The half that writes.
+//! The half of a callback that writes.
 
 ghost use Rattle.std.specs.Prelude.{◌≡◌, ◌≢◌, IfOk, IfErr, OnOk, Err, true, false};
 ghost use Rattle.lra_ids.specs.Addresses.{is_address};
@@ -11,7 +11,7 @@ use lra_wire::{RequestWrite, WireFault, write_request};
 use std::alloc::Global;
 use std::io::Write;
 
-// The address that the text is as it stands.
+// Returns the address that the text is, unchanged.
 fn own_address(alloc: Global, text: &str) -> Result<Address, SendFault>
     ensures ok { IfOk result (λ own. own ≡ text.now) }
     ensures address { OnOk result (is_address text.now ≡ true) }
@@ -34,8 +34,8 @@ fn own_address(alloc: Global, text: &str) -> Result<Address, SendFault>
 }
 
 impl<'a> Callback<'a> {
-    /// Where the member is asked, as an address that is read once for all that is done with it. Refused by `BadAddress`
-    /// where the text isn't an address as it stands, and by `Memory`.
+    /// Reads the address at which the member is asked, once for all its uses. Returns `BadAddress` where the text isn't
+    /// an address unchanged, and `Memory` where memory is refused.
     pub fn to(&self, alloc: Global) -> Result<Address, SendFault>
         ensures ok { IfOk result (λ to. to ≡ self.now.address) }
         ensures address { OnOk result (is_address self.now.address ≡ true) }
@@ -75,8 +75,8 @@ impl<'a> Callback<'a> {
         }
     }
 
-    /// Writes the request. Where memory was refused, or the address isn't one as it stands, nothing was written; where
-    /// the writer failed, a front of the request was.
+    /// Writes the request. Where memory is refused, or the text isn't an address unchanged, nothing is written. Where
+    /// the writer fails, a prefix of the request is.
     pub fn send<W: Write>(&self, alloc: Global, writer: &mut W) -> Result<(), SendFault>
         ensures { Posts (W.contents writer.old) (W.contents writer.new) self.now result }
     {

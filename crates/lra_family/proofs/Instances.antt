@@ -1,4 +1,4 @@
--- Instances of a family: what joining, leaving and moving does to them.
+-- Instances of a journal set: what joining, leaving and changing members does to them.
 use Rattle.std.proofs.Common.{◌≡◌, ◌≢◌, ℕ, ◌<◌, ◌≤◌, List, [], ◌∷◌, ◌++◌, map, length, get_or, Some, None, inl, inr}
 use Rattle.std.proofs.Common.{refl, sym, ap, ◌∙◌, subst, arith}
 use Rattle.std.proofs.lemmas.List.{map-append}
@@ -8,7 +8,7 @@ use Rattle.lra_family.proofs.Members.{test_yes, test_no, member-here, member-the
 
 -- ---- numbers
 
--- the last of them has the last place
+-- the last of them has the last index
 pub last_place : (n : ℕ) (ns : List ℕ) (d : ℕ) → last_after n ns ≡ get_or (n ∷ ns) (length ns) d
 last_place n [] d = refl
 last_place n (m ∷ ms) d = last_place m ms d
@@ -35,7 +35,7 @@ last_above n [] h = omega arith
 last_above n (m ∷ ms) h = let k = last_above m ms h.1 in omega (arith, h.0, k)
 
 module _ {S : Type 0} (name : S → ℕ) where
-  -- ---- a member moves
+  -- ---- a member changes
 
   pub instances-put : (i : ℕ) (t : S) (ss : List S) → name t ≡ i → map name (put name i t ss) ≡ map name ss
   instances-put i t [] e = refl
@@ -139,7 +139,7 @@ module _ {S : Type 0} (name : S → ℕ) where
         ]
   ]
 
-  -- who is no greater than what all are above isn't there
+  -- an instance that is no greater than a bound which all exceed isn't there
   not_below : (i n : ℕ) (ss : List S) → i ≤ n → IsAbove n (map name ss) → member name i ss ≡ None
   not_below i n [] le h = refl
   not_below i n (s ∷ ss) le h =
@@ -155,7 +155,7 @@ module _ {S : Type 0} (name : S → ℕ) where
         ∙ member-there name i s (without name i ss) k.1 ∙ gone_above i (name s) ss h.1
   ]
 
-  -- who left isn't there
+  -- a member that left isn't there
   pub leave_here : (i : ℕ) (ss : List S) → IsFamily (map name ss) → member name i (without name i ss) ≡ None
   leave_here i [] h = absurd h
   leave_here i (s ∷ ss) h = elim (eqb_tells (name s) i) [
@@ -165,7 +165,7 @@ module _ {S : Type 0} (name : S → ℕ) where
         ∙ member-there name i s (without name i ss) k.1 ∙ gone_above i (name s) ss h
   ]
 
-  -- who is there is no greater than the newest
+  -- an instance that is there is no greater than the newest
   pub there_below : (i n : ℕ) (ss : List S) (s : S) → IsAbove n (map name ss) → member name i ss ≡ Some s → i
       ≤ last_after n (map name ss)
   there_below i n [] s h k = absurd cc

@@ -1,4 +1,4 @@
--- Members of a list, by their instances and by their places.
+-- Members of a list, by their instances and by their indices.
 use Rattle.std.proofs.Common.{◌≡◌, ◌≢◌, ℕ, zero, suc, ◌<◌, ◌==◌, Bool, true, false, if◌then◌else◌, List, [], ◌∷◌, ◌++◌}
 use Rattle.std.proofs.Common.{length, take, get_or, set, Some, None, inl, inr, refl, sym, ap, ◌∙◌, arith}
 use Rattle.std.specs.List.{remove}
@@ -35,7 +35,7 @@ module _ {S : Type 0} (name : S → ℕ) where
   pub member-there : (i : ℕ) (s : S) (ss : List S) → name s ≢ i → member name i (s ∷ ss) ≡ member name i ss
   member-there i s ss e = test_no (name s) i (Some s) (member name i ss) e
 
-  -- who isn't in a list isn't its first
+  -- an instance that isn't in a list isn't its first
   pub not_first : (i : ℕ) (s : S) (ss : List S) → member name i (s ∷ ss) ≡ None → (name s ≢ i)
       × (member name i ss ≡ None)
   not_first i s ss h = elim (eqb_tells (name s) i) [
@@ -49,7 +49,7 @@ module _ {S : Type 0} (name : S → ℕ) where
       let k = not_first i s ss h in
       member-there i s (ss ++ ts) k.0 ∙ member-append i ss ts k.1
 
-  -- putting back who stands there changes nothing
+  -- replacing a member by itself changes nothing
   pub put_same : (i : ℕ) (ss : List S) (s : S) → member name i ss ≡ Some s → put name i s ss ≡ ss
   put_same i [] s h = refl
   put_same i (u ∷ ss) s h = elim (eqb_tells (name u) i) [
@@ -62,7 +62,7 @@ module _ {S : Type 0} (name : S → ℕ) where
         (put_same i ss s (sym (member-there i u ss e.1) ∙ h))
   ]
 
-  -- ---- members by their places
+  -- ---- members by their indices
 
   pub stands : (i p : ℕ) (ss : List S) (s : S) → member name i (take p ss) ≡ None → p < length ss → s ≡ get_or ss p s
       → name s ≡ i → StandsAt name i p ss

@@ -1,4 +1,4 @@
--- One request at a family of counters, and what is known of each counter.
+-- One request to a journal set, and what is known of each counter.
 use Rattle.std.proofs.Common.{◌≡◌, ℕ, List, [], ◌∷◌, Option, Some, None, Result, refl, ◌∙◌, ap, subst}
 use Rattle.std.specs.Prelude.{MatchOption, IsSomeAnd}
 use Rattle.lra_commands.specs.declared.command.Told.{Told}
@@ -13,7 +13,7 @@ use Rattle.lra_family.specs.Known.{KeepsHistories, EachKeepsHistories}
 use Rattle.lra_family.proofs.Instances.{there_named}
 use Rattle.lra_family.proofs.Running.{each_chain}
 
--- what a move is may be told otherwise
+-- the relation of a change may be replaced by one that follows from it
 pub moves_map : {S : Type 0} (name : S → ℕ) (i : ℕ) (ss ts : List S) (M N : S → S → Type 0) (L K : Type 0)
     → ((s t : S) → name s ≡ i → M s t → N s t) → (L → K)
     → MovesAt name i ss M L ts → MovesAt name i ss N K ts

@@ -1,4 +1,4 @@
--- What a body says.
+-- What can be read from a body.
 use Rattle.std.proofs.Common.{◌≡◌, ℕ, ◌<◌, Bool, true, false, ◌&&◌, List, [], ◌∷◌, length, Option, Some, None, IfSome}
 use Rattle.std.proofs.Common.{IsSome, option_and_then, is_some, true≢false, inl, inr, Ok, Err, refl, sym, ap, ◌∙◌}
 use Rattle.std.proofs.Common.{subst, arith}
@@ -77,7 +77,7 @@ body_unfit : (r : Operation) (o : Option Members) (t : Bool) → IfSome o (λ m.
 body_unfit r None t h fails = refl
 body_unfit r (Some m) t h fails = rw (sym h ∙ fails) refl
 
--- ---- what reading comes to
+-- ---- the result of reading
 
 pub found_empty : (body : List ℕ) (d : Data) → length body ≡ 0 → d ≡ object no_members → (object_in body ≡ as_object d)
     × IsSome (object_in body)

@@ -70,7 +70,7 @@ unavailable operation.Report = refl
 
 -- ---- what is asked for
 
--- an operation asks for it, or the table has the code by which it is denied
+-- the operation makes the API request, or the table has the code of the API error
 abbrev IsOf : Operation → Result Wish Denial → Type 0
 IsOf o (Ok w) = asked_by w ≡ o
 IsOf o (Err d) = has_code (denial_code d) (refusals o) ≡ true
@@ -164,7 +164,7 @@ asked i base request o w e (inr h) =
     (λ r. AsksBy i base (id_in request.target) r w (body_of r request.body)) (λ d. w ≡ Err d) in
     by_request i base (id_in request.target) request.body o w (subst P e h)
 
--- ---- what is told
+-- ---- what the counter returns
 
 listed_as : (o : Operation) (a b : Answer) → a ≡ b → is_listed o b ≡ true → is_listed o a ≡ true
 listed_as o a b e h = subst (λ (x : Answer). is_listed o x ≡ true) (sym e) h

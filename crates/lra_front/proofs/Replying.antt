@@ -30,7 +30,7 @@ unfolding reply_bytes
 same_text i base a head close code phrase fields body is_code is_phrase is_fields is_body =
     rw (lines_seen fields, is_code, is_phrase, is_fields, is_body) refl
 
--- ---- nothing went out
+-- ---- nothing was written
 
 reply_long : (i : ℕ) (base : List ℕ) (a : Answer) (head close : Bool) → 0 < length (reply_bytes i base a head close)
 unfolding reply_bytes

@@ -1,4 +1,4 @@
--- What is told of what was asked can be answered.
+-- What a counter returns for an API request can be answered.
 use Rattle.std.proofs.Common.{◌≡◌, ℕ, List, inl, inr, Option, Some, None, Result, Ok, Err, sym, ap, subst}
 use Rattle.std.specs.Prelude.{codes, unwrap_or, MatchOption, ⊤}
 use Rattle.std.specs.Result.{result_ok, MatchResult}
@@ -93,7 +93,7 @@ asked_number : (i : ℕ) (base : List ℕ) (request : Request) (w : Wish) → Ma
 asked_number i base request w (inl (e, lacks)) = absurd cc
 asked_number i base request w (inr h) = by_path i base request (operation_of request.method request.target) w h
 
--- ---- what is told
+-- ---- what the counter returns
 
 start_tells : (p : Option ℕ) (l : ℕ) (t : Told) → CanTell (order.Start p l) t → IsTellable (wish.Start p l) t
 start_tells p l (told.Action n) h = h

@@ -1,4 +1,4 @@
--- What a search among operations comes to.
+-- The result of a search among operations.
 use Rattle.std.proofs.Common.{◌≡◌, ℕ, ◌+◌, ◌<◌, Bool, false, List, ◌∷◌, length, drop, get_or, add-one, Option, refl}
 use Rattle.std.proofs.Common.{sym, ◌∙◌, subst}
 use Rattle.std.proofs.Math.Seq.{drop-cons}

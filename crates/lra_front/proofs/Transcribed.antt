@@ -41,7 +41,7 @@ kept (Some xs) (Some ys) old e h = ap Some (h ∙ same_bytes xs old e ∙ sym (a
 
 -- ---- texts and ends of turns
 
--- the next request is the last that is taken
+-- the next request is the last that is accepted
 abbrev last_of : ℕ → Bool
 last_of zero = true
 last_of (suc n) = false

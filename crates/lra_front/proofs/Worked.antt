@@ -46,7 +46,7 @@ id_of_close = refl
 
 -- ---- operations
 
--- each operation is the one that its method asks for at its place, and has a place that is served
+-- each operation is the one that its method asks for at its resource, and each resource has an operation
 own : map (λ o. operation_at (method o) (named_place o)) operations ≡ map Some operations
 own = refl
 

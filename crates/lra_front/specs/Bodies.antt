@@ -1,4 +1,4 @@
--- What the body of a request says.
+-- The body of a request, and what can be read from it.
 use Rattle.std.specs.Prelude.{ℕ, Bool, true, false, ◌&&◌, is_some, if◌then◌else◌, List, [], ◌∷◌, codes, bytes_eq}
 use Rattle.std.specs.Prelude.{Option, Some, None, option_and_then}
 use Rattle.std.specs.Option.{option_map_or}
@@ -39,7 +39,7 @@ abbrev pub kind_in : List ℕ → List (List ℕ × Kind) → Option Kind
 kind_in key [] = None
 kind_in key (k ∷ rest) = if bytes_eq key k.0 then Some k.1 else kind_in key rest
 
--- a value is of a kind: a text, or a number in digits alone, below 2^64
+-- a value is of a kind: a text, or a number of digits alone, below 2^64
 abbrev pub is_kind : Data → Kind → Bool
 is_kind value Text = is_some (as_str value)
 is_kind value Number = is_some (option_and_then as_u64 (as_number value))
@@ -53,7 +53,7 @@ abbrev pub members_fit : Operation → Members → Bool
 members_fit r no_members = true
 members_fit r (member key value rest) = member_fits r key value && members_fit r rest
 
--- the text and the number under a key
+-- the text under a key, if there is one
 abbrev pub text_under : List ℕ → Members → Option (List ℕ)
 text_under key members = option_and_then as_str (get_member key members)
 
@@ -65,11 +65,11 @@ number_under key members = option_and_then as_u64 (option_and_then as_number (ge
 abbrev pub endings : List Ending
 endings = ending.Completed ∷ ending.FailedToComplete ∷ ending.Compensated ∷ ending.FailedToCompensate ∷ []
 
--- the end of a member that has this name
+-- the end of a member by its name
 abbrev pub ending_named : List ℕ → Option Ending
 ending_named text = find (λ e. bytes_eq text (ending_name e)) endings
 
--- the end that a member tells
+-- the end that a member reports
 abbrev pub ending_told : Members → Option Ending
 ending_told members = option_and_then ending_named (text_under (codes "status") members)
 
@@ -83,14 +83,14 @@ addresses_given members = record {
   after = text_under (codes "after") members;
 }
 
--- what an operation's body needs is there
+-- the members that an operation's body has to have are there
 abbrev pub has_needed : Operation → Members → Bool
 has_needed operation.Remove m = is_some (text_under (codes "recovery") m)
 has_needed operation.Renew m = is_some (number_under (codes "limit") m)
 has_needed operation.Report m = is_some (ending_told m)
 has_needed _ m = true
 
--- the object that a body is; an empty body is one without members
+-- the object that a body is: an empty body is an object without members
 abbrev pub object_in : List ℕ → Option Members
 object_in [] = Some no_members
 object_in (b ∷ rest) = if is_utf8 (b ∷ rest) then option_and_then as_object (read (b ∷ rest)) else None
@@ -105,6 +105,6 @@ reads_body _ = true
 abbrev pub fitting : Operation → Members → Option Members
 fitting r members = when (members_fit r members && has_needed r members) members
 
--- what a body says, where it is one that the operation reads
+-- the members of a body, where it is one that the operation reads
 unfoldable pub body_of : Operation → List ℕ → Option Members
 body_of r body = if reads_body r then option_and_then (fitting r) (object_in body) else Some no_members

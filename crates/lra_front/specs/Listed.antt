@@ -1,4 +1,4 @@
--- That the table of operations has the code of each reply.
+-- The table of operations has the code of each reply.
 use Rattle.std.specs.Prelude.{◌≡◌, ℕ, ◌==◌, Bool, true, List, Result, Ok}
 use Rattle.std.specs.List.{list_any}
 use Rattle.lra_wire.specs.Request.{Request}

@@ -13,7 +13,7 @@ operations =
     ∷ operation.Renew
     ∷ operation.MemberStatus ∷ operation.Report ∷ []
 
--- what an operation's path names
+-- the resource that an operation's path names
 abbrev pub named_place : Operation → Place
 named_place operation.Start = place.Actions
 named_place operation.Status = place.Action
@@ -37,7 +37,7 @@ method operation.Renew = codes "PUT"
 method operation.MemberStatus = codes "GET"
 method operation.Report = codes "PUT"
 
--- an operation's word in what is measured
+-- an operation's label in metrics
 abbrev pub label : Operation → List ℕ
 label operation.Start = codes "start"
 label operation.Status = codes "status"
@@ -49,7 +49,7 @@ label operation.Renew = codes "renew"
 label operation.MemberStatus = codes "member"
 label operation.Report = codes "report"
 
--- an operation, in a sentence
+-- a sentence that says what an operation does
 abbrev pub summary : Operation → List ℕ
 summary operation.Start = codes "Starts an action, at the top or nested in another"
 summary operation.Status = codes "Returns an action's status"
@@ -73,7 +73,7 @@ success operation.Renew = 200 ∷ []
 success operation.MemberStatus = 200 ∷ []
 success operation.Report = 200 ∷ []
 
--- the codes by which a request for an operation is refused once it is read, admitted and routed
+-- the codes by which a request for an operation is refused once it was read, admitted and routed
 abbrev pub refusals : Operation → List ℕ
 refusals operation.Start = 400 ∷ 404 ∷ 409 ∷ 412 ∷ 500 ∷ 503 ∷ []
 refusals operation.Status = 404 ∷ 500 ∷ 503 ∷ []
@@ -85,13 +85,13 @@ refusals operation.Renew = 400 ∷ 404 ∷ 409 ∷ 412 ∷ 500 ∷ 503 ∷ []
 refusals operation.MemberStatus = 404 ∷ 500 ∷ 503 ∷ []
 refusals operation.Report = 400 ∷ 404 ∷ 410 ∷ 412 ∷ 500 ∷ 503 ∷ []
 
--- ---- places
+-- ---- resources
 
--- the places, in the order of their first operations
+-- the resources, in the order of their first operations
 abbrev pub places : List Place
 places = place.Actions ∷ place.Action ∷ place.Close ∷ place.Cancel ∷ place.Remove ∷ place.Renew ∷ place.Member ∷ []
 
--- a place's path; `{id}` is a piece between slashes that isn't empty
+-- a resource's path; `{id}` is a piece between slashes that isn't empty
 abbrev pub path_of : Place → List ℕ
 path_of place.Actions = codes "/lra-coordinator"
 path_of place.Action = codes "/lra-coordinator/{id}"
@@ -105,18 +105,18 @@ path_of place.Member = codes "/lra-recovery/{id}"
 abbrev pub path : Operation → List ℕ
 path o = path_of (named_place o)
 
--- an operation has a place's path
+-- an operation has the path of a resource
 abbrev pub is_at : Place → Operation → Bool
 is_at p o = bytes_eq (path o) (path_of p)
 
--- a method asks for an operation at a place; methods are told apart by their case (RFC 9110, section 9.1)
+-- a method asks for an operation at a resource; methods are case-sensitive (RFC 9110, section 9.1)
 abbrev pub is_asked : List ℕ → Place → Operation → Bool
 is_asked m p o = is_at p o && bytes_eq m (method o)
 
--- the operation that a method asks for at a place, if there is one
+-- the operation that a method asks for at a resource, if there is one
 abbrev pub operation_at : List ℕ → Place → Option Operation
 operation_at m p = find (is_asked m p) operations
 
--- the value of `Allow` at a place: the methods of its operations (RFC 9110, section 10.2.1)
+-- the value of `Allow` at a resource: the methods of its operations (RFC 9110, section 10.2.1)
 abbrev pub allowed : Place → List ℕ
 allowed p = join_by (λ m. m) (codes ", ") (map method (filter (is_at p) operations))

@@ -12,15 +12,15 @@ abbrev pub with_scan : {P : Type 0} → Result Scan InsertError → P → RowsOf
 with_scan (Ok scan) p rows = placed (scan.pattern, route_from scan p) rows
 with_scan (Err error) p rows = rows
 
--- the same with the path of one more that is served
+-- the rows of a router with the path of one more entry
 abbrev pub with_path : {P : Type 0} → (P → List ℕ) → P → RowsOf (RouteOf P) → RowsOf (RouteOf P)
 with_path path_of p rows = with_scan (parse_route (path_of p)) p rows
 
--- the rows of a router with the paths of these more
+-- the rows of a router with the paths of more entries
 abbrev pub with_paths : {P : Type 0} → (P → List ℕ) → List P → RowsOf (RouteOf P) → RowsOf (RouteOf P)
 with_paths path_of [] rows = rows
 with_paths path_of (p ∷ rest) rows = with_paths path_of rest (with_path path_of p rows)
 
--- what of these is served at a path, as `matchit` finds it
+-- the entry of a table that matches a path, as `matchit` finds it
 abbrev pub served_at : {P : Type 0} → (P → List ℕ) → List P → List ℕ → Option P
 served_at path_of all path = option_map (λ r. r.value) (first (with_paths path_of all []) path)

@@ -1,4 +1,4 @@
--- What is replied: the code, the fields and the body of each answer, and the text of a reply.
+-- Replies: the code, the fields and the body for each answer, and the text of a reply.
 use Rattle.std.specs.Prelude.{ℕ, ◌≤◌, ◌<◌, ◌^◌, ⊤, Bool, true, false, ◌||◌, if◌then◌else◌, List, [], ◌∷◌, ◌++◌, length}
 use Rattle.std.specs.Prelude.{codes, decimal, unwrap_or}
 use Rattle.std.specs.List.{flat_map}
@@ -20,7 +20,7 @@ use Rattle.lra_front.specs.Operations.{allowed}
 
 -- ---- codes and phrases
 
--- the code of what the coordinator refuses (this project's choice)
+-- the code for what the coordinator refuses (this project's choice)
 abbrev pub refusal_code : Refusal → ℕ
 refusal_code refusal.NoSuchClerk = 500
 refusal_code refusal.OldJournal = 409
@@ -37,7 +37,7 @@ refusal_code refusal.NotAsked = 412
 refusal_code refusal.Stopped = 503
 refusal_code refusal.Memory = 503
 
--- the code of what isn't done (this project's choice)
+-- the code of an API error (this project's choice)
 abbrev pub denial_code : Denial → ℕ
 denial_code denial.WrongKey = 401
 denial_code denial.WrongHost = 403
@@ -52,7 +52,8 @@ denial_code denial.BadBody = 400
 denial_code (denial.Refused r) = refusal_code r
 denial_code denial.Worn = 503
 
--- the code of an end that was asked for: 202 while it isn't reached (MicroProfile LRA 2.0, close and cancel)
+-- the code of an action's end that was asked for: 202 while the action hasn't reached it (MicroProfile LRA 2.0, close
+-- and cancel)
 abbrev pub turned_code : ActionStatus → ℕ
 turned_code status = if is_closing status || is_cancelling status then 202 else 200
 
@@ -73,7 +74,7 @@ phrase_of code = unwrap_or (reason_phrase code) []
 
 -- ---- bodies (this project's own): objects, their keys in the order of their bytes
 
--- the word for what isn't done
+-- the name of an API error
 abbrev pub denial_name : Denial → List ℕ
 denial_name denial.WrongKey = codes "WrongKey"
 denial_name denial.WrongHost = codes "WrongHost"
@@ -88,7 +89,7 @@ denial_name denial.BadBody = codes "BadBody"
 denial_name (denial.Refused r) = refusal_name r
 denial_name denial.Worn = codes "Worn"
 
--- an object of one text, and of two
+-- an object of one text, under its key
 abbrev pub one_text : List ℕ → List ℕ → Data
 one_text key text = object (member key (string text) no_members)
 
@@ -96,19 +97,19 @@ one_text key text = object (member key (string text) no_members)
 abbrev pub two_texts : List ℕ → List ℕ → List ℕ → List ℕ → Data
 two_texts key text other more = object (member key (string text) (member other (string more) no_members))
 
--- the body of a refusal: its word, with the action's status, or with what there is too much of
+-- the body of a refusal: its name, with the action's status, or with the name of what is full
 abbrev pub refusal_body : Refusal → Data
 refusal_body (refusal.NotActive status) = two_texts (codes "error") (codes "NotActive") (codes "status")
     (action_status_name status)
 refusal_body (refusal.Full resource) = two_texts (codes "error") (codes "Full") (codes "which") (resource_name resource)
 refusal_body r = one_text (codes "error") (refusal_name r)
 
--- the body of what isn't done
+-- the body of an API error
 abbrev pub denial_body : Denial → Data
 denial_body (denial.Refused r) = refusal_body r
 denial_body d = one_text (codes "error") (denial_name d)
 
--- the URI that an answer names, of a coordinator with that instance and base
+-- the URI that an answer of a coordinator with that instance and base names, or nothing
 abbrev pub uri_of : ℕ → List ℕ → Answer → List ℕ
 uri_of i base (answer.Started action) = action_uri i base action
 uri_of i base (answer.Found action status) = action_uri i base action
@@ -132,21 +133,21 @@ body_of uri (answer.Denied d) = denial_body d
 abbrev pub Field : Type 0
 Field = List ℕ × List ℕ
 
--- how a key is given, where that was another (RFC 6750, section 3), and the methods that a place takes, where another
--- was asked for (RFC 9110, section 15.5.6)
+-- the fields of an API error: how a key is given, where it was missing or wrong (RFC 6750, section 3), and the methods
+-- that a resource accepts, where another came (RFC 9110, section 15.5.6)
 abbrev pub denial_fields : Denial → List Field
 denial_fields denial.WrongKey = (codes "WWW-Authenticate", codes "Bearer realm=\"lra\"") ∷ []
 denial_fields (denial.BadMethod place) = (codes "Allow", allowed place) ∷ []
 denial_fields _ = []
 
--- the fields that go with an answer (MicroProfile LRA 2.0, the headers of an LRA; RFC 9110, section 10.2.2)
+-- the fields of one answer alone (MicroProfile LRA 2.0, the headers of an LRA; RFC 9110, section 10.2.2)
 abbrev pub own_fields : List ℕ → Answer → List Field
 own_fields uri (answer.Started action) = (codes "Location", uri) ∷ (codes "Long-Running-Action", uri) ∷ []
 own_fields uri (answer.Joined m) = (codes "Long-Running-Action-Recovery", uri) ∷ []
 own_fields uri (answer.Denied d) = denial_fields d
 own_fields uri _ = []
 
--- that the stream is closed after the reply (RFC 9112, section 9.6)
+-- the field that says that the stream is closed after the reply (RFC 9112, section 9.6)
 abbrev pub closing_fields : Bool → List Field
 closing_fields true = (codes "Connection", codes "close") ∷ []
 closing_fields false = []
@@ -167,14 +168,14 @@ line_end = 13 ∷ 10 ∷ []
 abbrev pub line_of : Field → List ℕ
 line_of field = field.0 ++ codes ": " ++ field.1 ++ line_end
 
--- the one text of a reply: its line, its fields, an empty line, and the body (RFC 9112, section 2.1); of the body only
--- the length is told where the head alone was asked for (RFC 9110, section 9.3.2)
+-- the text of a reply: its line, its fields, an empty line, and the body (RFC 9112, section 2.1). Where only the head
+-- was asked for, the body is left out, and its length stays (RFC 9110, section 9.3.2).
 abbrev pub reply_text : List ℕ → Answer → List ℕ → Bool → Bool → List ℕ
 reply_text uri a text head close =
     (codes "HTTP/1.1 " ++ (decimal (code_of a) ++ (codes " " ++ phrase_of (code_of a))))
     ++ line_end ++ flat_map line_of (fields_of uri a text close) ++ line_end ++ (if head then [] else text)
 
--- the reply of a coordinator with that instance and base
+-- the bytes of the reply of a coordinator with that instance and base
 unfoldable pub reply_bytes : ℕ → List ℕ → Answer → Bool → Bool → List ℕ
 reply_bytes i base a head close = reply_text (uri_of i base a) a (compact_text (body_of (uri_of i base a) a)) head close
 

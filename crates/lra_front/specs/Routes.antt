@@ -1,4 +1,4 @@
--- What the path and the method of a request ask for.
+-- The operation that the path and the method of a request ask for.
 use Rattle.std.specs.Prelude.{ℕ, List, ◌==◌, Bool, if◌then◌else◌, Option, None, Result, Ok, Err}
 use Rattle.std.specs.List.{list_any, before_first, after_first}
 use Rattle.std.specs.Option.{option_map_or}
@@ -15,8 +15,8 @@ use Rattle.lra_front.specs.Paths.{served_at}
 abbrev pub has_query : List ℕ → Bool
 has_query target = list_any (λ b. b == 63) target
 
--- what a target names: the path that `matchit` finds for it; nothing where it has a query, wherever that stands, or is
--- in absolute form
+-- the resource that a target names: the one whose path `matchit` finds for it. A target names nothing where it has a
+-- query, wherever that stands, or is in absolute form.
 unfoldable pub place_of : List ℕ → Option Place
 place_of target = if has_query target then None else served_at path_of places target
 
@@ -24,16 +24,16 @@ place_of target = if has_query target then None else served_at path_of places ta
 abbrev pub is_slash : ℕ → Bool
 is_slash b = b == 47
 
--- the piece of a target where its path has the ID: what stands between its second and its third slash
+-- the piece of a target that is the ID of its path: the text between its second and its third slash
 unfoldable pub id_in : List ℕ → List ℕ
 id_in target = before_first is_slash (after_first is_slash (after_first is_slash target))
 
 -- ---- operations
 
--- what a method asks for at a place, if it is taken there
+-- the operation that a method asks for at a resource, or the API error where the resource doesn't accept the method
 abbrev pub asked_at : List ℕ → Place → Result Operation Denial
 asked_at method p = option_map_or Ok (operation_at method p) (Err (BadMethod p))
 
--- what a request asks for: the path first, then the method
+-- the operation that a request asks for. The path is checked first, then the method.
 abbrev pub operation_of : List ℕ → List ℕ → Result Operation Denial
 operation_of method target = option_map_or (asked_at method) (place_of target) (Err NoSuchPath)

@@ -1,4 +1,4 @@
--- What one request does: what is given to the counter, and what is answered.
+-- What one request does: the order that the counter is given, and the answer.
 use Rattle.std.specs.Prelude.{◌≡◌, ℕ, Bool, is_ok, Result, Ok, Err}
 use Rattle.lra_wire.specs.Request.{Request}
 use Rattle.lra_commands.specs.declared.command.Told.{Told}
@@ -15,7 +15,7 @@ use Rattle.lra_front.specs.declared.answer.Answer.{Answer}
 use Rattle.lra_front.specs.declared.answer.Answer.TheVariants as answer
 use Rattle.lra_front.specs.Wishes.{MayAsk, IsOrder}
 
--- what is answered where something is told of what was asked: a repeat is answered as the first time
+-- the answer to an API request, from what the counter returned for it: a repeated one is answered as the first was
 abbrev pub TellsOf : Wish → Told → Answer → Type 0
 TellsOf (wish.Start parent limit) (told.Action n) a = a ≡ answer.Started n
 TellsOf (wish.Join action uris) (told.Member n) a = a ≡ answer.Joined n
@@ -32,14 +32,14 @@ TellsOf (wish.Report m e) (told.MemberAlready status) a = a ≡ answer.Member st
 TellsOf (wish.MemberStatus m) (told.MemberIs status) a = a ≡ answer.Member status
 TellsOf _ _ a = ⊥
 
--- what is answered to a counter's reply
+-- the answer to an API request, from the counter's reply
 abbrev pub Answers : Wish → Result Told CounterFault → Answer → Type 0
 Answers w (Ok t) a = TellsOf w t a
 Answers w (Err (CounterRefused r)) a = a ≡ answer.Denied (denial.Refused r)
 Answers w (Err CounterWorn) a = a ≡ answer.Denied denial.Worn
 
 module _ (gives : Sight → ℕ → Order → Result Told CounterFault → Sight → Type 0) where
-  -- what is asked for is given to the counter as one order, and the reply is answered
+  -- the counter is given one order for the API request, and the answer is that for its reply
   pub record Gives (before : Sight) (moment : ℕ) (w : Wish) (after : Sight) (a : Answer) : Type 0 where
     pub order : Order
     pub asked : IsOrder w order
@@ -47,18 +47,18 @@ module _ (gives : Sight → ℕ → Order → Result Told CounterFault → Sight
     pub given : gives before moment order reply after
     pub answered : Answers w reply a
 
-  -- what is denied is given to nobody
+  -- an API request does one order, and an API error does nothing
   abbrev pub Does : Sight → ℕ → Result Wish Denial → Sight → Answer → Type 0
   Does before moment (Ok w) after a = Gives before moment w after a
   Does before moment (Err d) after a = (a ≡ answer.Denied d) × (after ≡ before)
 
-  -- what a request does at a moment: one order at most, and its answer
+  -- what a request does at a moment: at most one order, and its answer
   abbrev pub Responds : Sight → ℕ → Request → Sight → Answer → Type 0
   Responds before moment request after a =
       (w : Result Wish Denial) × MayAsk before.setting.instance before.setting.base request w
       × Does before moment w after a
 
-  -- the same, and whether an order was given: it was for what may be asked, and wasn't for what is denied
+  -- the same, and whether an order was given: it was for an API request, and wasn't for an API error
   abbrev pub Orders : Sight → ℕ → Request → Sight → Answer → Bool → Type 0
   Orders before moment request after a is_ordered = (w : Result Wish Denial)
       × MayAsk before.setting.instance before.setting.base request w × Does before moment w after a

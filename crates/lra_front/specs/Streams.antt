@@ -1,4 +1,4 @@
--- What a stream of requests does: one after another, until it is closed.
+-- What a stream of requests does: they are answered one after another, until the stream is closed.
 use Rattle.std.specs.Prelude.{◌≡◌, ◌⊎◌, ℕ, zero, suc, Bool, true, false, ◌||◌, List, [], bytes_eq, codes, Option, Some}
 use Rattle.std.specs.Prelude.{None, IfSome, Result}
 use Rattle.std.specs.Option.{option_map_or}
@@ -23,19 +23,19 @@ use Rattle.lra_front.specs.declared.stream.Served.TheVariants.{Going, Ended}
 use Rattle.lra_front.specs.Replies.{reply_bytes}
 use Rattle.lra_front.specs.Serving.{Responds}
 
--- where a stream stands: the bytes to come and those that went out, where they are known, what is known of the counter,
--- and the clock
+-- the state of a stream: the bytes to come and those that were written, where they are known, what is known of the
+-- counter, and the clock
 pub record Standing (K : Type 0) : Type 0 where
   pub bytes : Option (List ℕ)
   pub sight : Sight
   pub clock : K
   pub out : Option (List ℕ)
 
--- a stream stands there
+-- the state of a stream, from its parts
 abbrev pub standing : {K : Type 0} → Option (List ℕ) → Sight → K → Option (List ℕ) → Standing K
 standing bytes sight clock out = record { bytes = bytes; sight = sight; clock = clock; out = out }
 
--- what is answered to a fault of reading: nothing where the stream was cut or failed
+-- the answer to a fault of reading: none where the stream was cut or failed
 abbrev pub fault_answer : WireFault → Option Answer
 fault_answer wire.BadHead = Some (Denied denial.BadHead)
 fault_answer wire.Chunked = Some (Denied denial.Chunked)
@@ -45,16 +45,16 @@ fault_answer wire.Cut = None
 fault_answer wire.Io = None
 fault_answer wire.Memory = Some (Denied (denial.Refused refusal.Memory))
 
--- the reply to a fault of reading, which closes the stream
+-- the reply to a fault of reading, which closes the stream, or nothing where there is none
 abbrev pub fault_text : Sight → WireFault → List ℕ
 fault_text v fault = option_map_or (λ a. reply_bytes v.setting.instance v.setting.base a false true)
     (fault_answer fault) []
 
--- the head of a reply alone is asked for (RFC 9110, section 9.3.2)
+-- only the head of a reply is asked for (RFC 9110, section 9.3.2)
 abbrev pub is_head : Request → Bool
 is_head request = bytes_eq request.method (codes "HEAD")
 
--- the stream is closed after a request: it asks for that, or it is the last that is taken (this project's limit)
+-- the stream is closed after a request: it asks for that, or it is the last that is accepted (this project's limit)
 abbrev pub closes_after : Bool → Request → Bool
 closes_after last request = request.close || last
 
@@ -65,7 +65,7 @@ reply_to v last request a = reply_bytes v.setting.instance v.setting.base a (is_
 
 module _ {K : Type 0} (gives : Sight → ℕ → Order → Result Told CounterFault → Sight → Type 0)
     (tells : K → ℕ → K → Type 0) where
-  -- a request is read, the clock tells the moment, and one order at most is given; whatever becomes of the reply
+  -- a request is read, the clock returns the moment, and at most one order is given, whatever becomes of the reply
   pub record Exchange (s t : Standing K) (request : Request) (a : Answer) : Type 0 where
     pub read : IfBothKnown s.bytes t.bytes (λ xs ys. IsRequest xs request ys)
     pub moment : ℕ
@@ -80,7 +80,7 @@ module _ {K : Type 0} (gives : Sight → ℕ → Order → Result Told CounterFa
     pub closes : closes_after last request ≡ closed
     pub wrote : Appends s.out t.out (reply_to t.sight last request answer)
 
-  -- a request is done, and a proper front of its reply went out
+  -- a request is done, and a proper prefix of its reply was written
   pub record ReplyFailed (last : Bool) (s t : Standing K) : Type 0 where
     pub request : Request
     pub answer : Answer
@@ -92,13 +92,13 @@ module _ {K : Type 0} (gives : Sight → ℕ → Order → Result Told CounterFa
     pub sight : t.sight ≡ s.sight
     pub clock : t.clock ≡ s.clock
 
-  -- no request is there any more
+  -- there is no further request
   pub record Finished (s t : Standing K) : Type 0 where
     pub read : IfBothKnown s.bytes t.bytes (λ xs ys. (xs ≡ []) × (ys ≡ []))
     pub rests : Rests s t
     pub wrote : Keeps s.out t.out
 
-  -- no request is read, for that fault, and this went out of the reply to it
+  -- no request is read, because of that fault, and this much of the reply to it was written
   pub record Faulted (Wrote : Option (List ℕ) → Option (List ℕ) → List ℕ → Type 0) (s t : Standing K)
       (fault : WireFault) : Type 0 where
     pub read : IfSome s.bytes (λ bytes. RefusesRequest bytes fault)
@@ -116,18 +116,18 @@ module _ {K : Type 0} (gives : Sight → ℕ → Order → Result Told CounterFa
   Serves last s Going t = Replied last false s t
   Serves last s (Ended end) t = EndsAt last s end t
 
-  -- What a stream does, of which so many requests are taken and one more: the next one, and then the rest.
+  -- What a stream does of which so many requests are accepted and one more: the next one, and then the rest.
   unfoldable pub ServesUpTo : ℕ → Standing K → StreamEnd → Standing K → Type 0
   ServesUpTo zero s end t = EndsAt true s end t
   ServesUpTo (suc n) s end t = EndsAt false s end t ⊎ ((u : Standing K) × Replied false false s u
       × ServesUpTo n u end t)
 
-  -- Memory was refused before anything was read, and nothing is done.
+  -- Memory was refused before anything was read, so that nothing is done.
   pub record NotBegun (s : Standing K) (end : StreamEnd) (t : Standing K) : Type 0 where
     pub memory : end ≡ Refused wire.Memory
     pub rests : Rests s t
     pub wrote : Keeps s.out t.out
 
-  -- what a stream does: at most 1,000 requests are taken of it (this project's limit)
+  -- what a stream does: at most 1,000 requests of it are accepted (this project's limit)
   abbrev pub ServesStream : Standing K → StreamEnd → Standing K → Type 0
   ServesStream s end t = NotBegun s end t ⊎ ServesUpTo 999 s end t

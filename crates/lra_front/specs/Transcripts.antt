@@ -1,4 +1,4 @@
--- What a whole stream comes to, as lists: the requests that its bytes spell, the moments, the answers, and the bytes of
+-- Transcripts: a whole stream as lists of the requests that its bytes spell, the moments, the answers, and the bytes of
 -- the replies.
 use Rattle.std.specs.Prelude.{◌≡◌, ◌⊎◌, ℕ, zero, suc, ◌<◌, Bool, true, false, List, [], ◌∷◌, ◌++◌, length, Some, Result}
 use Rattle.std.specs.Prelude.{Ok, Err, ⊤}
@@ -31,12 +31,12 @@ abbrev pub Spells : List ℕ → List Turn → List ℕ → Type 0
 Spells bytes [] rest = bytes ≡ rest
 Spells bytes (turn ∷ turns) rest = (more : List ℕ) × IsRequest bytes turn.request more × Spells more turns rest
 
--- the reply to a request, the last that is taken or not
+-- the reply to a request, which may be the last that is accepted
 abbrev pub turn_text : Setting → Bool → Turn → List ℕ
 turn_text c last turn = reply_bytes c.instance c.base turn.answer (is_head turn.request)
     (closes_after last turn.request)
 
--- the replies to requests, one after another, of which so many are taken and one more
+-- the replies to requests, one after another, of which so many are accepted and one more
 abbrev pub replies : Setting → ℕ → List Turn → List ℕ
 replies c n [] = []
 replies c zero (turn ∷ turns) = turn_text c true turn ++ replies c zero turns
@@ -68,11 +68,11 @@ ClosesLast (suc n) (turn ∷ []) = closes_after false turn.request ≡ true
 ClosesLast zero (turn ∷ next ∷ turns) = ⊥
 ClosesLast (suc n) (turn ∷ next ∷ turns) = (closes_after false turn.request ≡ false) × ClosesLast n (next ∷ turns)
 
--- a proper front of a text
+-- a proper prefix of a text
 abbrev pub IsFront : List ℕ → List ℕ → Type 0
 IsFront front text = (more : List ℕ) × (text ≡ front ++ more) × (0 < length more)
 
--- why a stream ended after these turns, where the rest was still to be read, and what went out by then
+-- how a stream ended after these turns, where the rest was still to be read, and what was written by then
 abbrev pub EndsAfter : Setting → ℕ → List Turn → List ℕ → List ℕ → StreamEnd → Type 0
 EndsAfter c n turns rest out Done = (out ≡ replies c n turns) × (((rest ≡ []) × StaysOpen n turns) ⊎ ClosesLast n turns)
 EndsAfter c n turns rest out (Refused fault) = (out ≡ replies c n turns ++ fault_bytes c fault)
@@ -84,7 +84,7 @@ EndsAfter c n turns rest out WriteFault =
 
 module _ {K : Type 0} (gives : Sight → ℕ → Order → Result Told CounterFault → Sight → Type 0)
     (tells : K → ℕ → K → Type 0) where
-  -- one turn after another: the clock tells its moment, and its request does what it does at the counter
+  -- one turn after another: the clock returns its moment, and its request does what it does at the counter
   abbrev pub Chain : Sight → K → List Turn → Sight → K → Type 0
   Chain v k [] w l = (w ≡ v) × (l ≡ k)
   Chain v k (turn ∷ turns) w l =
@@ -101,21 +101,21 @@ module _ {K : Type 0} (gives : Sight → ℕ → Order → Result Told CounterFa
     pub written : t.out ≡ Some (old ++ out)
     pub ends : EndsAfter s.sight.setting n turns rest out end
 
-  -- What a stream does, where its bytes and those that went out are known, is its transcript.
+  -- What a stream does is its transcript, where its bytes and those that were written are known.
   abbrev pub AreTranscripts : Type 0
   AreTranscripts = (n : ℕ) (bytes old : List ℕ) (s t : Standing K) (end : StreamEnd) → s.bytes ≡ Some bytes → s.out
       ≡ Some old
       → ServesUpTo gives tells n s end t → Transcript n bytes old s end t
 
   -- what a request adds to the entries under its clerk's number: what its one order adds, at a history that begins with
-  -- all that was seen, and nothing where it is denied
+  -- all that was seen; nothing where it is an API error
   abbrev pub IsAdded : (v : Sight) (moment : ℕ) (w : Result Wish Denial) (u : Sight) (a : Answer)
       → Does gives v moment w u a → History → Type 0
   IsAdded v moment (Ok wish) u a given added = (met : History) × IsPrefix v.seen met
       × (added ≡ added_by (terms_of v.setting) met (call_of v.number moment given.order) given.reply)
   IsAdded v moment (Err denial) u a given added = added ≡ []
 
-  -- what turns add, one after another
+  -- what turns add to those entries, one after another
   abbrev pub AreAdded : (v : Sight) (k : K) (turns : List Turn) (w : Sight) (l : K) → Chain v k turns w l → History
       → Type 0
   AreAdded v k [] w l chain added = added ≡ []

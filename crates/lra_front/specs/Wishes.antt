@@ -1,4 +1,4 @@
--- What a request asks of the coordinator.
+-- API requests: what a request asks of the coordinator.
 use Rattle.std.specs.Prelude.{◌≡◌, ◌⊎◌, ℕ, List, [], true, codes, Some, None, MatchOption, unwrap_or, Result, Ok, Err}
 use Rattle.std.specs.Result.{MatchResult}
 use Rattle.serde_json.specs.Data.{Members}
@@ -18,35 +18,35 @@ use Rattle.lra_front.specs.declared.wish.Wish.TheVariants as wish
 use Rattle.lra_front.specs.Routes.{operation_of, id_in}
 use Rattle.lra_front.specs.Bodies.{body_of, reads_body, text_under, number_under, ending_told, addresses_given}
 
--- a text that isn't the identifier of an action, or of a member
+-- the API error for a text that isn't the identifier of an action
 abbrev pub no_action : Denial
 no_action = Refused refusal.NoSuchAction
 
--- an identifier of no member is denied so
+-- the API error for a text that isn't the identifier of a member
 abbrev pub no_member : Denial
 no_member = Refused refusal.NoSuchMember
 
--- The text is spelled from a number, and what is asked for goes on from it; or it is spelled from none, and that is
--- denied.
+-- The text spells a number, and the API request is one for that number; or it spells none, and that API error is
+-- returned.
 abbrev pub IsNamed : (ℕ → List ℕ) → List ℕ → Denial → (ℕ → Result Wish Denial → Type 0) → Result Wish Denial → Type 0
 IsNamed spelled text none Next w =
     ((n : ℕ) × IsSpelling spelled text n × Next n w) ⊎ (((n : ℕ) → ¬ (IsSpelling spelled text n)) × (w ≡ Err none))
 
--- the limit in a body: 0, which is none, where it has none
+-- the limit in a body: 0, which means none, where it has none
 abbrev pub limit_in : Members → ℕ
 limit_in ms = unwrap_or (number_under (codes "limit") ms) 0
 
--- the end that a body tells; it is there where the body fits
+-- the end that a body names; a body that fits the operation names one
 abbrev pub ending_in : Members → Ending
 ending_in ms = unwrap_or (ending_told ms) ending.Completed
 
--- an action is started at the top, or under the parent of which the body has the URI
+-- the start of an action: at the top, or under the parent whose URI the body has
 abbrev pub IsStart : ℕ → List ℕ → Members → Result Wish Denial → Type 0
 IsStart i base ms w = MatchOption (text_under (codes "parent") ms)
     (w ≡ Ok (wish.Start None (limit_in ms)))
     (λ uri. IsNamed (action_uri i base) uri no_action (λ parent v. v ≡ Ok (wish.Start (Some parent) (limit_in ms))) w)
 
--- what an operation asks for of an action: a member leaves it by its recovery URI, which the body has
+-- the API request that an operation makes of an action; a member leaves it by its recovery URI, which the body has
 abbrev pub IsOfAction : ℕ → List ℕ → Members → Operation → ℕ → Result Wish Denial → Type 0
 IsOfAction i base ms operation.Status action w = w ≡ Ok (wish.Status action)
 IsOfAction i base ms operation.Join action w = w ≡ Ok (wish.Join action (addresses_given ms))
@@ -58,35 +58,35 @@ IsOfAction i base ms operation.Remove action w =
     (λ m v. v ≡ Ok (wish.Leave action m)) w
 IsOfAction i base ms _ action w = ⊥
 
--- what an operation asks for of a member
+-- the API request that an operation makes of a member
 abbrev pub IsOfMember : Members → Operation → ℕ → Result Wish Denial → Type 0
 IsOfMember ms operation.MemberStatus m w = w ≡ Ok (wish.MemberStatus m)
 IsOfMember ms operation.Report m w = w ≡ Ok (wish.Report m (ending_in ms))
 IsOfMember ms _ m w = ⊥
 
--- What an operation asks for, of a coordinator with that instance and base: the path's ID is looked at before the
--- body's.
+-- The API request that an operation makes of a coordinator with that instance and base. The path's ID is checked before
+-- the body's.
 abbrev pub IsWish : ℕ → List ℕ → List ℕ → Members → Operation → Result Wish Denial → Type 0
 IsWish i base id ms operation.Start w = IsStart i base ms w
 IsWish i base id ms operation.MemberStatus w = IsNamed (id_text i) id no_member (IsOfMember ms operation.MemberStatus) w
 IsWish i base id ms operation.Report w = IsNamed (id_text i) id no_member (IsOfMember ms operation.Report) w
 IsWish i base id ms r w = IsNamed (id_text i) id no_action (IsOfAction i base ms r) w
 
--- What a request asks for: the path is looked at first, then the method, the body, and the identifiers.
+-- The API request of a request. The path is checked first, then the method, the body, and the identifiers.
 abbrev pub Asks : ℕ → List ℕ → Request → Result Wish Denial → Type 0
 Asks i base request w = MatchResult (operation_of request.method request.target)
     (λ r. MatchOption (body_of r request.body) (w ≡ Err BadBody) (λ ms. IsWish i base (id_in request.target) ms r w))
     (λ d. w ≡ Err d)
 
--- Memory was refused in reading what a request asks for: its path and its method are served, and its body is read.
+-- Memory can be refused in reading a request: its path and its method are served, and its operation reads the body.
 abbrev pub LacksMemory : Request → Type 0
 LacksMemory request = (r : Operation) × (operation_of request.method request.target ≡ Ok r) × (reads_body r ≡ true)
 
--- what a request asks for, or that memory was refused in reading it
+-- the API request of a request, or that memory was refused in reading it
 abbrev pub MayAsk : ℕ → List ℕ → Request → Result Wish Denial → Type 0
 MayAsk i base request w = ((w ≡ Err (Refused refusal.Memory)) × LacksMemory request) ⊎ Asks i base request w
 
--- the order that is given for what is asked
+-- the order that is given for an API request
 abbrev pub IsOrder : Wish → Order → Type 0
 IsOrder (wish.Start parent limit) o = o ≡ order.Start parent limit
 IsOrder (wish.Join action uris) (order.Join a given) = (a ≡ action) × (given.now ≡ uris)

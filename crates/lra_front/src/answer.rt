@@ -1,4 +1,4 @@
-//! The answer to a request, and the reply that tells it.
+//! The answer to a request, and its reply.
 
 ghost use Rattle.std.specs.Prelude.{
   ◌≡◌,
@@ -39,31 +39,31 @@ use serde_json::{Value, json};
 use std::alloc::Global;
 use std::io::Write;
 
-/// The most fields that a reply has.
+/// Largest number of fields of a reply.
 const MOST_FIELDS: usize = 5;
 
-/// The answer to a request.
+/// Answer to a request.
 #[derive(Clone, Copy, Debug, PartialEq, Eq)]
 pub enum Answer {
-    /// The action that was started.
+    /// Action that was started.
     Started(u64),
-    /// An action, and its status.
+    /// Action, and its status.
     Found { action: u64, status: ActionStatus },
-    /// The member that joined, now or before.
+    /// Member that joined, now or before.
     Joined(u64),
-    /// The action's status once its end was asked for, now or before.
+    /// Action's status once its end was asked for, now or before.
     Turned(ActionStatus),
     /// The member has left.
     Left,
     /// The action's limit is set.
     Renewed,
-    /// The member's status.
+    /// Member's status.
     Member(MemberStatus),
-    /// It isn't done.
+    /// The request was refused, for the reason that the API error gives.
     Denied(Denial),
 }
 
-/// The parts that a reply is written from: the URI that its answer names, its body, and the body's length in digits.
+/// Parts that a reply is written from: the URI that its answer names, its body, and the body's length in digits.
 #[derive(Drop)]
 struct Parts {
     uri: String,
@@ -71,7 +71,7 @@ struct Parts {
     digits: String,
 }
 
-/// The status code of what the coordinator refuses.
+/// Returns the status code for what the coordinator refuses.
 fn refusal_status(refusal: Refusal) -> StatusCode
     ensures { result ≡ spec.refusal_code refusal }
 {
@@ -86,14 +86,14 @@ fn refusal_status(refusal: Refusal) -> StatusCode
     }
 }
 
-/// A body of one text.
+/// Makes a body of one text.
 fn one_text(alloc: Global, key: &str, text: &str) -> Result<Value, Memory>
     ensures { IfOk result (λ body. view body ≡ spec.one_text key.now text.now) }
 {
     json!(in alloc; {key: text})
 }
 
-/// A body of two texts, whose keys come in the order of their bytes.
+/// Makes a body of two texts. The caller gives the keys in the order of their bytes.
 fn two_texts(alloc: Global, key: &str, text: &str, other: &str, more: &str) -> Result<Value, Memory>
     requires order { slice_cmp nat_cmp other.now key.now ≡ Greater }
     ensures { IfOk result (λ body. view body ≡ spec.two_texts key.now text.now other.now more.now) }
@@ -101,7 +101,7 @@ fn two_texts(alloc: Global, key: &str, text: &str, other: &str, more: &str) -> R
     json!(in alloc; {key: text, other: more})
 }
 
-/// The body of a refusal.
+/// Makes the body of a refusal.
 fn refusal_body(alloc: Global, refusal: Refusal) -> Result<Value, Memory>
     ensures { IfOk result (λ body. view body ≡ spec.refusal_body refusal) }
 {
@@ -115,7 +115,7 @@ fn refusal_body(alloc: Global, refusal: Refusal) -> Result<Value, Memory>
 }
 
 impl Denial {
-    /// Its word in a body.
+    /// Returns the error's name, as it stands in a body.
     pub fn name(self) -> &'static str
         ensures { result.now ≡ spec.denial_name self }
     {
@@ -135,7 +135,7 @@ impl Denial {
         }
     }
 
-    /// The status code of its reply.
+    /// Returns the status code of its reply.
     pub fn status(self) -> StatusCode
         ensures { result ≡ spec.denial_code self }
     {
@@ -163,7 +163,7 @@ impl Denial {
 }
 
 impl Answer {
-    /// The status code of its reply.
+    /// Returns the status code of its reply.
     pub fn status(self) -> StatusCode
         ensures { result ≡ spec.code_of self }
     {
@@ -177,7 +177,7 @@ impl Answer {
         }
     }
 
-    /// The URI that it names, or nothing.
+    /// Makes the URI that the answer names, or an empty text where it names none.
     fn uri(self, alloc: Global, instance: Instance, base: &Base) -> Result<String, Memory>
         requires numbers { spec.HasIdentifiers self }
         ensures { IfOk result (λ uri. string_bytes uri ≡ spec.uri_of instance base.now self) }
@@ -190,7 +190,7 @@ impl Answer {
         }
     }
 
-    /// Its body, where it names that URI.
+    /// Makes the answer's body. `uri` is the URI that the answer names.
     fn body(self, alloc: Global, uri: &str) -> Result<Value, Memory>
         ensures { IfOk result (λ body. view body ≡ spec.body_of uri.now self) }
     {
@@ -208,14 +208,14 @@ impl Answer {
         }
     }
 
-    /// The text of its body.
+    /// Makes the text of the answer's body.
     fn text(self, alloc: Global, uri: &str) -> Result<String, Memory>
         ensures { IfOk result (λ text. string_bytes text ≡ compact_text (spec.body_of uri.now self)) }
     {
         self.body(alloc, uri)?.to_string(alloc)
     }
 
-    /// Adds the fields that go with it, where it names that URI.
+    /// Appends the fields of this answer alone. `uri` is the URI that the answer names.
     fn add_fields<'a>(self, uri: &'a str, fields: &mut Vec<(&'a str, &'a str)>)
         requires { vec_len fields.old + 2 ≤ vec_capacity fields.old }
         ensures fields { map seen fields.new.items ≡ map seen fields.old.items ++ spec.own_fields uri.now self }
@@ -238,7 +238,7 @@ impl Answer {
         }
     }
 
-    /// All fields of its reply, where it names that URI, with a body of that length in digits.
+    /// Makes all fields of the reply. `uri` is the URI that the answer names, and `digits` the length of the body.
     fn fields<'a>(
         self,
         alloc: Global,
@@ -259,7 +259,7 @@ impl Answer {
         Ok(fields)
     }
 
-    /// Returns the parts that its reply is written from.
+    /// Makes the parts that the reply is written from.
     fn parts(self, alloc: Global, instance: Instance, base: &Base) -> Result<Parts, Memory>
         requires numbers { spec.HasIdentifiers self }
         ensures { IfOk result (IsPartsOf instance base.now self) }
@@ -270,8 +270,8 @@ impl Answer {
         Ok(Parts { uri, text, digits })
     }
 
-    /// Writes its reply: the head alone where that was asked for, and that the stream is closed where it is. The
-    /// reply's text is made in the page, in place of what stood there before.
+    /// Writes the reply: without its body where `head` is set, and with `Connection: close` where `close` is set. The
+    /// reply's text is made in the page, and replaces what stood there.
     pub fn write<W: Write>(
         self,
         page: &mut Vec<u8>,
@@ -284,7 +284,7 @@ impl Answer {
         requires numbers { spec.HasIdentifiers self }
         ensures text { Sends (W.contents writer.old) (W.contents writer.new)
             (spec.reply_bytes instance base.now self head close) result }
-        // No memory, and nothing went out.
+        // Where memory is refused, nothing is written.
         ensures memory { result ≡ Err WireFault.Memory → Keeps (W.contents writer.old) (W.contents writer.new) }
     {
         let alloc = *page.allocator();
@@ -305,14 +305,14 @@ impl Answer {
     }
 }
 
-/// Returns what follows the head of a reply: nothing where the head alone was asked for.
+/// Returns the bytes that follow the head of a reply: none where only the head was asked for.
 fn content(text: &str, head: bool) -> &[u8]
     ensures { result.now ≡ (if head then [] else text.now) }
 {
     if head { b"" } else { text.as_bytes() }
 }
 
-/// The phrase of a status code.
+/// Returns the phrase of a status code.
 fn phrase(status: StatusCode) -> &'static str
     ensures { result.now ≡ spec.phrase_of status }
 {

@@ -1,4 +1,4 @@
-//! The body of a request, and what it says.
+//! The body of a request, and how it is read.
 
 ghost use Rattle.std.specs.Prelude.{◌≡◌, ◌&&◌, is_some, option_map, IfSome};
 ghost use Rattle.serde_json.specs.Data.{object, no_members};
@@ -15,7 +15,7 @@ use serde_json::Value;
 use serde_json::value::Map;
 use std::alloc::Global;
 
-/// The kind of a value in a body.
+/// Kind of a value in a body.
 #[derive(Clone, Copy, Debug, PartialEq, Eq)]
 pub enum Kind {
     Text,
@@ -35,7 +35,7 @@ impl Kind {
 }
 
 impl Operation {
-    /// The kind of the value that its body may have under a key.
+    /// Returns the kind of the value that the operation's body may have under a key, if it may have one.
     fn kind(self, key: &str) -> Option<Kind>
         ensures { result ≡ spec.kind_in key.now (spec.keys self) }
     {
@@ -49,7 +49,7 @@ impl Operation {
         }
     }
 
-    /// Returns the key under which its body has an identifier, if it has one.
+    /// Returns the key under which the operation's body has an identifier, if it has one.
     pub fn identifier_key(self) -> Option<&'static str>
         ensures { option_map (λ key. key.now) result ≡ spec.identifier_key self }
     {
@@ -99,14 +99,14 @@ impl Operation {
     }
 }
 
-/// Returns whether a key is that of one of a member's addresses.
+/// Returns whether a key is one of a member's addresses.
 fn is_address(key: &str) -> bool
     ensures { result ≡ is_some (spec.kind_in key.now (spec.keys Operation.Join)) }
 {
     key == "compensate" || key == "complete" || key == "status" || key == "forget" || key == "after"
 }
 
-/// The text under a key of a body.
+/// Returns the text under a key of a body, if there is one.
 pub(crate) fn text_under<'b>(body: &'b Value, key: &str) -> Option<&'b str>
     ensures { IfSome (as_object (view body.now)) (λ members. option_map (λ text. text.now) result
         ≡ spec.text_under key.now members) }
@@ -114,14 +114,14 @@ pub(crate) fn text_under<'b>(body: &'b Value, key: &str) -> Option<&'b str>
     body.get(key)?.as_str()
 }
 
-/// The number under a key of a body.
+/// Returns the number under a key of a body, if there is one.
 pub(crate) fn number_under(body: &Value, key: &str) -> Option<u64>
     ensures { IfSome (as_object (view body.now)) (λ members. result ≡ spec.number_under key.now members) }
 {
     body.get(key)?.as_u64()
 }
 
-/// The end that a member tells.
+/// Returns the end that a member reports, if the body names one.
 pub(crate) fn ending_told(body: &Value) -> Option<Ending>
     ensures { IfSome (as_object (view body.now)) (λ members. result ≡ spec.ending_told members) }
 {
@@ -134,14 +134,14 @@ fn ending_named(text: &str) -> Option<Ending>
     Ending::from_name(text.as_bytes())
 }
 
-/// An object without members.
+/// Makes an object without members.
 fn empty_object(alloc: Global) -> Value
     ensures { view result ≡ object no_members }
 {
     Value::Object(Map::new(alloc))
 }
 
-/// The object that a body is; an empty body is one without members.
+/// Reads the object that a body is. An empty body is an object without members.
 fn object_in(alloc: Global, body: &[u8]) -> Result<Value, Denial>
     ensures { ReadsObject body.now result }
 {
@@ -157,8 +157,8 @@ fn object_in(alloc: Global, body: &[u8]) -> Result<Value, Denial>
 }
 
 impl Operation {
-    /// Reads the object that a body says. It is empty where the operation reads no body, and denied where it doesn't
-    /// fit the operation.
+    /// Reads the object that a body is. It is empty where the operation reads no body. Returns `BadBody` where the body
+    /// doesn't fit the operation.
     pub(crate) fn read_body(self, alloc: Global, body: &[u8]) -> Result<Value, Denial>
         ensures { ReadsBody self body.now result }
     {
@@ -172,7 +172,7 @@ impl Operation {
         }
     }
 
-    /// Returns whether its body may be this object.
+    /// Returns whether the operation's body may be this object.
     fn fits(self, body: &Value) -> bool
         ensures { IfSome (as_object (view body.now)) (λ members. result
             ≡ (spec.members_fit self members && spec.has_needed self members)) }

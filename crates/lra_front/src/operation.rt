@@ -5,45 +5,45 @@ ghost use Rattle.lra_front.specs.Operations as spec;
 
 use crate::paths::Path;
 
-/// The place that a path names.
+/// Resource that a path names.
 #[derive(Clone, Copy, Debug, PartialEq, Eq, Drop)]
 pub enum Place {
-    /// Where actions are started.
+    /// Resource at which actions are started.
     Actions,
-    /// An action.
+    /// Action.
     Action,
-    /// Where an action is closed.
+    /// Resource at which an action is closed.
     Close,
-    /// Where an action is cancelled.
+    /// Resource at which an action is cancelled.
     Cancel,
-    /// Where a member leaves its action.
+    /// Resource at which a member leaves its action.
     Remove,
-    /// Where an action's limit is set anew.
+    /// Resource at which an action's limit is set anew.
     Renew,
-    /// A member.
+    /// Member.
     Member,
 }
 
-/// The operation that a request asks for.
+/// Operation that a request asks for.
 #[derive(Clone, Copy, Debug, PartialEq, Eq)]
 pub enum Operation {
-    /// To start an action.
+    /// Start of an action.
     Start,
-    /// To know an action's status.
+    /// Query of an action's status.
     Status,
-    /// To let a member join an action.
+    /// Joining of a member to an action.
     Join,
-    /// To close an action.
+    /// Close of an action.
     Close,
-    /// To cancel an action.
+    /// Cancellation of an action.
     Cancel,
-    /// To let a member leave its action.
+    /// Leaving of a member from its action.
     Remove,
-    /// To set an action's limit anew.
+    /// Renewal of an action's limit.
     Renew,
-    /// To know a member's status.
+    /// Query of a member's status.
     MemberStatus,
-    /// To take down what a member tells of itself.
+    /// Report of a member on its own end.
     Report,
 }
 
@@ -80,7 +80,7 @@ impl Path for Place {
 }
 
 impl Place {
-    /// Returns the operation that a method asks for here, if there is one.
+    /// Returns the operation that a method asks for at this resource, if there is one.
     pub(crate) fn operation(self, method: &str) -> Option<Operation>
         ensures { result ≡ spec.operation_at method.now self }
     {
@@ -92,7 +92,7 @@ impl Place {
         None
     }
 
-    /// Returns the methods that it takes, as `Allow` lists them (RFC 9110, section 10.2.1).
+    /// Returns the methods that the resource accepts, as `Allow` lists them (RFC 9110, section 10.2.1).
     pub fn allowed(self) -> &'static str
         ensures { result.now ≡ spec.allowed self }
     {
@@ -105,7 +105,7 @@ impl Place {
 }
 
 impl Operation {
-    /// All of them, in the order in which docs/use/http.md lists them.
+    /// All operations, in the order in which docs/use/http.md lists them.
     pub const ALL: [Operation; 9] = [
         Operation::Start,
         Operation::Status,
@@ -118,7 +118,7 @@ impl Operation {
         Operation::Report,
     ];
 
-    /// Returns what its path names.
+    /// Returns the resource that the operation's path names.
     pub fn place(self) -> Place
         ensures { result ≡ spec.named_place self }
     {
@@ -133,14 +133,14 @@ impl Operation {
         }
     }
 
-    /// Returns its path, with `{id}` where the ID stands.
+    /// Returns the operation's path, with `{id}` in place of the ID.
     pub fn path(self) -> &'static str
         ensures { result.now ≡ spec.path self }
     {
         self.place().path()
     }
 
-    /// Returns its method.
+    /// Returns the operation's method.
     pub fn method(self) -> &'static str
         ensures { result.now ≡ spec.method self }
     {
@@ -156,7 +156,7 @@ impl Operation {
         }
     }
 
-    /// Returns its word in what is measured.
+    /// Returns the operation's label in metrics.
     pub fn label(self) -> &'static str
         ensures { result.now ≡ spec.label self }
     {
@@ -173,7 +173,7 @@ impl Operation {
         }
     }
 
-    /// Returns a sentence that says what it does.
+    /// Returns a sentence that says what the operation does.
     pub fn summary(self) -> &'static str
         ensures { result.now ≡ spec.summary self }
     {
@@ -190,7 +190,7 @@ impl Operation {
         }
     }
 
-    /// Returns the status codes of its replies where it is done.
+    /// Returns the status codes of the replies where the operation is done.
     pub fn success(self) -> &'static [u16]
         ensures { result.now ≡ spec.success self }
     {
@@ -206,7 +206,7 @@ impl Operation {
         }
     }
 
-    /// Returns the status codes by which a request for it is refused once it is read, admitted and routed.
+    /// Returns the status codes by which a request for the operation is refused once it was read, admitted and routed.
     pub fn refusals(self) -> &'static [u16]
         ensures { result.now ≡ spec.refusals self }
     {
@@ -219,7 +219,7 @@ impl Operation {
         }
     }
 
-    /// Returns whether a method asks for it at a place.
+    /// Returns whether a method asks for the operation at a resource.
     fn is_asked(self, method: &str, place: Place) -> bool
         ensures { result ≡ spec.is_asked method.now place self }
     {

@@ -11,17 +11,17 @@ use std::alloc::{AllocError, Global};
 pub trait Path: Copy + Drop + 'static {
     ghost use Rattle.std.specs.Prelude.{◌≡◌, List, ℕ};
 
-    // All of them, in their order.
+    // All paths, in their order.
     ghost all: { List Self };
 
     // The path of each.
     ghost path_of: { Self → List ℕ };
 
-    /// Returns all of them, in their order.
+    /// Returns all paths, in their order.
     fn all() -> &'static [Self]
         ensures { result.now ≡ all };
 
-    /// Returns its path, as `matchit` reads it.
+    /// Returns the path's text, as `matchit` reads it.
     fn path(self) -> &'static str
         ensures { result.now ≡ path_of self };
 }
@@ -33,14 +33,14 @@ pub struct PathRouter<P: Path> {
     ghost served: { router ≡ with_paths P.path_of P.all [] },
 }
 
-/// Serves one path more.
+/// Adds one path to a router.
 fn serve<P: Path>(router: &mut Router<P>, served: P) -> Result<(), InsertError>
     ensures { OnOk result (router.new ≡ with_path P.path_of served router.old) }
 {
     router.insert(served.path(), served)
 }
 
-/// Serves all paths.
+/// Adds all paths to a router.
 fn serve_all<P: Path>(router: &mut Router<P>) -> Result<(), InsertError>
     ensures { OnOk result (router.new ≡ with_paths P.path_of P.all router.old) }
 {
@@ -50,7 +50,7 @@ fn serve_all<P: Path>(router: &mut Router<P>) -> Result<(), InsertError>
     Ok(())
 }
 
-/// Returns the router of all paths.
+/// Makes the router of all paths.
 fn router<P: Path>(alloc: Global) -> Result<Router<P>, InsertError>
     ensures { IfOk result (λ router. router ≡ with_paths P.path_of P.all []) }
 {
@@ -60,7 +60,7 @@ fn router<P: Path>(alloc: Global) -> Result<Router<P>, InsertError>
 }
 
 impl<P: Path> PathRouter<P> {
-    /// Returns the router of all paths.
+    /// Makes the router of all paths.
     pub fn new(alloc: Global) -> Result<PathRouter<P>, Memory> {
         match router(alloc) {
             Ok(router) => Ok(PathRouter { router }),
@@ -68,7 +68,7 @@ impl<P: Path> PathRouter<P> {
         }
     }
 
-    /// Returns what is served at a path.
+    /// Returns the entry of the table that matches a path, if one does.
     pub fn at(&self, path: &str) -> Option<P>
         ensures { result ≡ served_at P.path_of P.all path.now }
     {

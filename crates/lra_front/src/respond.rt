@@ -1,4 +1,4 @@
-//! The effect of one request: its answer, and the order that it gives the counter.
+//! The effect of one request: its answer, and the order that the counter is given for it.
 
 ghost use Rattle.lra_wire.specs.Request.{request_of};
 ghost use Rattle.lra_front.specs.Replies.{HasIdentifiers};
@@ -13,7 +13,7 @@ use lra_commands::{Counter, CounterFault, Told};
 use lra_wire::RequestRead;
 use std::alloc::Global;
 
-/// Returns the answer to what was asked, from what the counter told of it.
+/// Returns the answer to an API request, from what the counter returned for it.
 fn told(wish: &Wish, told: Told) -> Answer
     requires { IsTellable wish.now told }
     ensures answer { TellsOf wish.now told result }
@@ -38,7 +38,7 @@ fn told(wish: &Wish, told: Told) -> Answer
     }
 }
 
-/// Returns the answer to what was asked, from the counter's reply.
+/// Returns the answer to an API request, from the counter's reply.
 fn answer(wish: &Wish, reply: Result<Told, CounterFault>) -> Answer
     requires { IsAnswerable wish.now reply }
     ensures answer { Answers wish.now reply result }
@@ -52,7 +52,7 @@ fn answer(wish: &Wish, reply: Result<Told, CounterFault>) -> Answer
 }
 
 impl Routes {
-    /// Answers a request at a moment: it gives the counter one order at most.
+    /// Answers a request at a moment. It gives the counter at most one order.
     pub fn respond<C: Counter>(
         &self,
         alloc: Global,
@@ -62,14 +62,14 @@ impl Routes {
     ) -> Answer
         ensures responds { Responds C.gives (C.sight counter.old) moment (request_of request.now) (C.sight counter.new)
             result }
-        // Its numbers are those that identifiers can have.
+        // The answer's numbers are those that identifiers can have.
         ensures identifiers { HasIdentifiers result }
     {
         let (answer, _) = self.respond_ordered(alloc, counter, moment, request);
         answer
     }
 
-    /// Answers a request at a moment as `respond` does, and returns also whether the counter was given an order.
+    /// Answers a request at a moment as `respond` does. Returns also whether the counter was given an order.
     pub fn respond_ordered<C: Counter>(
         &self,
         alloc: Global,

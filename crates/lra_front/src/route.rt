@@ -10,13 +10,13 @@ use crate::paths::PathRouter;
 use lra_model::Memory;
 use std::alloc::Global;
 
-/// The paths that are served.
+/// Router of the paths that are served.
 #[derive(Drop)]
 pub struct Routes {
     router: PathRouter<Place>,
 }
 
-/// Returns what follows the first slash, or nothing.
+/// Returns the text after the first slash, or nothing where there is none.
 fn after_slash(text: &str) -> &str
     ensures { result.now ≡ after_first is_slash text.now }
 {
@@ -26,7 +26,7 @@ fn after_slash(text: &str) -> &str
     }
 }
 
-/// Returns what stands before the first slash, or all of it.
+/// Returns the text before the first slash, or all of it where there is none.
 fn before_slash(text: &str) -> &str
     ensures { result.now ≡ before_first is_slash text.now }
 {
@@ -36,7 +36,7 @@ fn before_slash(text: &str) -> &str
     }
 }
 
-/// The piece of a target where its path has the ID.
+/// Returns the piece of a target that is the ID of its path.
 #[tactic(auto, unfolding(crate::specs::Routes::id_in))]
 pub fn id_in(target: &str) -> &str
     ensures { result.now ≡ id_in target.now }
@@ -52,13 +52,13 @@ fn has_query(target: &str) -> bool
 }
 
 impl Routes {
-    /// The paths that are served.
+    /// Makes the router of the paths that are served.
     pub fn new(alloc: Global) -> Result<Routes, Memory> {
         let router = PathRouter::new(alloc)?;
         Ok(Routes { router })
     }
 
-    /// Returns the place that a target names. One with a query names nothing.
+    /// Returns the resource that a target names, if it names one. A target with a query names none.
     #[tactic(auto, unfolding(crate::specs::Routes::place_of))]
     fn place(&self, target: &str) -> Option<Place>
         ensures { result ≡ place_of target.now }
@@ -69,7 +69,7 @@ impl Routes {
         self.router.at(target)
     }
 
-    /// Returns the operation that a request asks for: the path is looked at first, then the method.
+    /// Returns the operation that a request asks for. It checks the path first, then the method.
     pub fn operation(&self, method: &str, target: &str) -> Result<Operation, Denial>
         ensures { result ≡ operation_of method.now target.now }
     {

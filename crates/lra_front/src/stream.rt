@@ -17,18 +17,18 @@ use lra_wire::{Inbox, RequestRead, WireFault, read_request};
 use std::alloc::Global;
 use std::io::{Read, Write};
 
-/// The way in which a stream ended.
+/// Way in which a stream ended.
 #[derive(Clone, Copy, Debug, PartialEq, Eq)]
 pub enum StreamEnd {
     /// All requests were answered up to the end, or up to one after which the stream is closed.
     Done,
-    /// A request couldn't be read. This is answered, unless the stream was cut or failed.
+    /// A request couldn't be read. The fault is answered, unless the stream was cut or failed.
     Refused(WireFault),
     /// A reply couldn't be written.
     WriteFault,
 }
 
-/// The outcome of a stream's next request.
+/// Outcome of a stream's next request.
 #[derive(Clone, Copy, Debug, PartialEq, Eq)]
 pub enum Served {
     /// It was answered, and the stream goes on.
@@ -37,7 +37,7 @@ pub enum Served {
     Ended(StreamEnd),
 }
 
-/// Returns the answer to a fault of reading: none where the stream was cut or failed.
+/// Returns the answer to a fault of reading, or none where the stream was cut or failed.
 pub fn fault_answer(fault: WireFault) -> Option<Answer>
     ensures { result ≡ spec.fault_answer fault }
 {
@@ -51,7 +51,7 @@ pub fn fault_answer(fault: WireFault) -> Option<Answer>
     }
 }
 
-/// Replies to a fault of reading, and closes the stream.
+/// Writes the reply to a fault of reading, if there is one, and ends the stream.
 fn refuse<W: Write, C: Counter>(
     page: &mut Vec<u8>,
     writer: &mut W,
@@ -76,14 +76,14 @@ fn refuse<W: Write, C: Counter>(
     }
 }
 
-/// Returns whether the stream is closed after a request: where it asks for that, or is the last that is taken.
+/// Returns whether the stream is closed after a request: it asks for that, or is the last that is accepted.
 fn closes_after(request: &RequestRead, last: bool) -> bool
     ensures { result ≡ spec.closes_after last (request_of request.now) }
 {
     request.close || last
 }
 
-/// Answers a request, and closes the stream where it is closed after it.
+/// Answers a request, and ends the stream where it is closed after that request.
 fn exchange<W: Write, C: Counter, K: Clock>(
     page: &mut Vec<u8>,
     routes: &Routes,
@@ -114,9 +114,8 @@ fn exchange<W: Write, C: Counter, K: Clock>(
     }
 }
 
-/// Answers the next request of an inbox, or tells how the stream ended. After the last request that is taken the stream
-/// is closed. The page is where replies are made: what stands in it before is dropped, so that one page serves many
-/// streams.
+/// Answers the next request of an inbox, or returns how the stream ended. The stream is closed after the request where
+/// `last` is set. Replies are made in the page, which loses what stood in it, so that one page serves many streams.
 pub fn serve_request<R: Read + Drop, W: Write, C: Counter, K: Clock>(
     page: &mut Vec<u8>,
     routes: &Routes,
@@ -129,7 +128,7 @@ pub fn serve_request<R: Read + Drop, W: Write, C: Counter, K: Clock>(
     ensures serves { IsFalse (is_spent inbox.old) → spec.Serves C.gives K.tells last
         (spec.standing (stream_of R.remaining inbox.old) (C.sight counter.old) clock.old (W.contents writer.old)) result
         (spec.standing (stream_of R.remaining inbox.new) (C.sight counter.new) clock.new (W.contents writer.new)) }
-    // The inbox goes on where the stream does, and after a fault it reads no more.
+    // The inbox can be read on where the stream goes on. After a fault it reads no more.
     ensures goes { result ≡ Served.Going → IsFalse (is_spent inbox.new) }
     ensures spent { IsTrue (is_spent inbox.old) → result ≡ Served.Ended (StreamEnd.Refused wire.Cut) }
 {
@@ -140,10 +139,10 @@ pub fn serve_request<R: Read + Drop, W: Write, C: Counter, K: Clock>(
     }
 }
 
-/// The most requests that are taken of a stream.
+/// Largest number of requests that are accepted from a stream.
 const MOST_REQUESTS: u64 = 1000;
 
-/// Answers the requests of an inbox.
+/// Answers the requests of an inbox, up to the last that is accepted.
 fn serve_inbox<R: Read + Drop, W: Write, C: Counter, K: Clock>(
     page: &mut Vec<u8>,
     routes: &Routes,
@@ -170,8 +169,8 @@ fn serve_inbox<R: Read + Drop, W: Write, C: Counter, K: Clock>(
     }
 }
 
-/// Answers the requests that a reader gives, one after another: up to its end, to one after which the stream is closed,
-/// to a fault, or to the 1,000th. What was asked for stands, whether or not its reply could be written.
+/// Answers the requests that a reader gives, one after another: up to its end, to a request after which the stream is
+/// closed, to a fault, or to the 1,000th request. What a request did stays done, even if its reply couldn't be written.
 pub fn serve_stream<R: Read + Drop, W: Write, C: Counter, K: Clock>(
     alloc: Global,
     reader: R,

@@ -1,4 +1,4 @@
-//! The wish of a request, and how it is read.
+//! API requests: what a request asks of the coordinator, and how it is read.
 
 ghost use Rattle.std.specs.Prelude.{◌≡◌, IsTrue, IfSome, IfOk, Ok, option_map};
 ghost use Rattle.serde_json.specs.Find.{as_object};
@@ -21,31 +21,31 @@ use lra_wire::RequestRead;
 use serde_json::Value;
 use std::alloc::Global;
 
-/// The wish of a request: what it asks of the coordinator.
+/// API request: what a request asks of the coordinator.
 #[derive(Debug, Drop)]
 pub enum Wish {
-    /// To start an action. A limit is in milliseconds, and 0 is none.
+    /// Start of an action. The limit is in milliseconds, and 0 means none.
     Start { parent: Option<u64>, limit: u64 },
-    /// To let a member join an action.
+    /// Joining of a member to an action.
     Join { action: u64, uris: Uris },
-    /// To let a member leave its action.
+    /// Leaving of a member from its action.
     Leave { action: u64, member: u64 },
-    /// To close an action.
+    /// Close of an action.
     Close { action: u64 },
-    /// To cancel an action.
+    /// Cancellation of an action.
     Cancel { action: u64 },
-    /// To set an action's limit anew, in milliseconds from now.
+    /// Renewal of an action's limit, in milliseconds from now.
     Renew { action: u64, limit: u64 },
-    /// To know an action's status.
+    /// Query of an action's status.
     Status { action: u64 },
-    /// To take down what a member tells of itself.
+    /// Report of a member on its own end.
     Report { member: u64, ending: Ending },
-    /// To know a member's status.
+    /// Query of a member's status.
     MemberStatus { member: u64 },
 }
 
 impl Wish {
-    /// The order that is given for it.
+    /// Returns the order that the coordinator is given for the API request.
     pub fn order(&self) -> Order<'_>
         ensures { spec.IsOrder self.now result }
     {
@@ -78,7 +78,7 @@ impl Wish {
     }
 }
 
-/// The action of a path's ID.
+/// Returns the action of a path's ID, or `NoSuchAction`.
 fn find_action(id: &str, instance: Instance) -> Result<u64, Denial>
     ensures { IsFound (id_text instance) id.now spec.no_action result }
 {
@@ -88,7 +88,7 @@ fn find_action(id: &str, instance: Instance) -> Result<u64, Denial>
     }
 }
 
-/// The member of a path's ID.
+/// Returns the member of a path's ID, or `NoSuchMember`.
 fn find_member(id: &str, instance: Instance) -> Result<u64, Denial>
     ensures { IsFound (id_text instance) id.now spec.no_member result }
 {
@@ -98,7 +98,7 @@ fn find_member(id: &str, instance: Instance) -> Result<u64, Denial>
     }
 }
 
-/// A text of its own.
+/// Copies a text, if there is one.
 fn owned(alloc: Global, text: Option<&str>) -> Result<Option<String>, Memory>
     ensures { IfOk result (λ copy. text_of copy ≡ option_map (λ t. t.now) text.entry) }
 {
@@ -108,7 +108,7 @@ fn owned(alloc: Global, text: Option<&str>) -> Result<Option<String>, Memory>
     }
 }
 
-/// The addresses that a member gives.
+/// Copies the addresses that a member gives in a body.
 fn uris_in(alloc: Global, body: &Value) -> Result<Uris, Memory>
     ensures { IfSome (as_object (view body.now)) (λ members. IfOk result (λ uris. uris ≡ addresses_given members)) }
 {
@@ -121,21 +121,21 @@ fn uris_in(alloc: Global, body: &Value) -> Result<Uris, Memory>
     })
 }
 
-/// The limit in a body: 0, which is none, where it has none.
+/// Returns the limit in a body, or 0 where it has none.
 fn limit_in(body: &Value) -> u64
     ensures { IfSome (as_object (view body.now)) (λ members. result ≡ spec.limit_in members) }
 {
     number_under(body, "limit").unwrap_or(0)
 }
 
-/// The end that a body tells.
+/// Returns the end that a body names. A body that fits the operation names one.
 fn ending_in(body: &Value) -> Ending
     ensures { IfSome (as_object (view body.now)) (λ members. result ≡ spec.ending_in members) }
 {
     ending_told(body).unwrap_or(Ending::Completed)
 }
 
-/// An action is started at the top, or under the parent of which the body has the URI.
+/// Returns the start of an action: at the top, or under the parent whose URI the body has.
 fn start(instance: Instance, base: &Base, body: &Value) -> Result<Wish, Denial>
     ensures { IfSome (as_object (view body.now)) (λ members. spec.IsStart instance base.now members result) }
 {
@@ -155,7 +155,7 @@ fn start(instance: Instance, base: &Base, body: &Value) -> Result<Wish, Denial>
     }
 }
 
-/// The member leaves of which the body has the recovery URI.
+/// Returns the leaving of the member whose recovery URI the body has.
 fn leave(instance: Instance, base: &Base, action: u64, body: &Value) -> Result<Wish, Denial>
     ensures { IfSome (as_object (view body.now)) (λ members. spec.IsOfAction instance base.now members Operation.Remove
         action result) }
@@ -168,7 +168,7 @@ fn leave(instance: Instance, base: &Base, action: u64, body: &Value) -> Result<W
 }
 
 impl Operation {
-    /// Returns what it asks for of an action.
+    /// Returns the API request that the operation makes of an action.
     fn of_action(
         self,
         alloc: Global,
@@ -198,7 +198,7 @@ impl Operation {
         }
     }
 
-    /// Returns what it asks for of a member.
+    /// Returns the API request that the operation makes of a member.
     fn of_member(self, member: u64, body: &Value) -> Wish
         requires { IsTrue (is_of_member self) }
         ensures { IfSome (as_object (view body.now)) (λ members. spec.IsOfMember members self member (Ok result)) }
@@ -212,7 +212,7 @@ impl Operation {
         }
     }
 
-    /// Returns what it asks for, at a path with that ID.
+    /// Returns the API request that the operation makes at a path with that ID.
     fn wish(
         self,
         alloc: Global,
@@ -239,8 +239,8 @@ impl Operation {
 }
 
 impl Routes {
-    /// Returns what a request asks for: the path is looked at first, then the method, the body, and the identifiers,
-    /// the path's first. Memory may be refused where the operation reads its body.
+    /// Returns the API request of a request. It checks the path first, then the method, then the body, then the path's
+    /// identifier, and then the body's. Memory may be refused where the operation reads its body.
     pub fn wish(
         &self,
         alloc: Global,

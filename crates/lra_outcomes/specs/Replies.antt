@@ -1,11 +1,11 @@
--- What a callback came to, in words.
+-- The outcome of a callback, in words.
 use Rattle.std.specs.Prelude.{ℕ, List, ◌++◌, codes}
 use Rattle.std.specs.Fmt.{decimal}
 use Rattle.lra_outcomes.specs.declared.reply.Reply.{Reply}
 use Rattle.lra_outcomes.specs.declared.reply.Reply.TheVariants.{NotAllowed, NoAddress, NotConnected, TimedOut}
 use Rattle.lra_outcomes.specs.declared.reply.Reply.TheVariants.{Cut, NotHttp, Answered, NoState, AtIt, NotSent}
 
--- a reply as an operator reads it
+-- the words of an outcome, for operators
 abbrev pub words_of : Reply → List ℕ
 words_of NotAllowed = codes "the rules don't allow its address"
 words_of NoAddress = codes "its host's name has no address"

@@ -1,2 +1,2 @@
--- Words that private functions alone use.
+-- Definitions that only private functions use.
 pub mod Noted

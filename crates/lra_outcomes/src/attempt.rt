@@ -1,4 +1,4 @@
-//! A callback that is remembered.
+//! A callback of which the outcome is remembered.
 
 ghost use Rattle.std.specs.Prelude.{◌≡◌, IfOk};
 ghost use Rattle.lra_outcomes.specs.inner.Noted.{seen, seen_of};
@@ -6,19 +6,19 @@ ghost use Rattle.lra_outcomes.specs.inner.Noted.{seen, seen_of};
 use crate::reply::Reply;
 use std::alloc::{AllocError, Global};
 
-/// The last callback of a member that hasn't brought it further.
+/// Last callback of a member, where it didn't advance the member.
 #[derive(Drop)]
 pub struct Attempt {
-    /// The address that was asked.
+    /// Address that was asked.
     pub address: String,
-    /// The outcome of the callback.
+    /// Outcome of the callback.
     pub reply: Reply,
-    /// The moment at which that was, in milliseconds since 1970 by the service's clock.
+    /// Moment of the outcome, in milliseconds since 1970 by the service's clock.
     pub moment: u64,
 }
 
 impl Attempt {
-    /// Makes one.
+    /// Makes an attempt, with a copy of the address.
     pub(crate) fn new(
         alloc: Global,
         address: &str,
@@ -35,7 +35,7 @@ impl Attempt {
         })
     }
 
-    /// Copies it.
+    /// Copies the attempt.
     pub(crate) fn copy(&self, alloc: Global) -> Result<Attempt, AllocError>
         ensures { IfOk result (λ made. seen_of made ≡ seen_of self.now) }
     {

@@ -1,4 +1,4 @@
-//! Callbacks by member.
+//! The last callbacks, by member.
 
 ghost use Rattle.std.specs.Prelude.{◌≡◌, ◌≤◌, ℕ, false, None, Some, IfOk, IsTrue, IsFalse};
 ghost use Rattle.std.specs.HashMap.{hash_map_len};
@@ -8,20 +8,20 @@ use crate::attempt::Attempt;
 use std::alloc::{AllocError, Global};
 use std::collections::HashMap;
 
-/// The most members that are remembered.
+/// Largest number of members that are remembered.
 pub const MOST: usize = 100_000;
 
-/// The last callbacks of members that weren't brought further, by the members' numbers.
+/// Last callbacks of members that they didn't advance, by the members' numbers.
 #[derive(Drop)]
 pub(crate) struct Book {
     by_member: HashMap<u64, Attempt>,
-    /// The number of callbacks that found no room.
+    /// Number of callbacks that found no room.
     dropped: u64,
     ghost few: { hash_map_len by_member ≤ 100_000 },
 }
 
 impl Book {
-    /// None is remembered.
+    /// Makes an empty book.
     pub(crate) fn new(alloc: Global) -> Book
         ensures none { (member : ℕ) → at result.by_member member ≡ None }
         ensures dropped { result.dropped ≡ 0 }
@@ -32,7 +32,7 @@ impl Book {
         }
     }
 
-    /// Counts a callback that finds no room.
+    /// Counts a callback that finds no room. The count stops at its greatest value.
     pub(crate) fn drop_one(&mut self)
         ensures same { self.new.by_member ≡ self.old.by_member }
         ensures dropped { self.new.dropped ≡ dropped_after false self.old.dropped }
@@ -40,8 +40,8 @@ impl Book {
         self.dropped = self.dropped.saturating_add(1);
     }
 
-    /// Remembers a member's callback in place of the one before, and returns whether there was room for it. Else it is
-    /// counted, and what is remembered stays.
+    /// Remembers a member's callback in place of the one before, and returns whether there was room for it. Where there
+    /// was none, it counts the callback, and the one before stays.
     pub(crate) fn note(&mut self, member: u64, attempt: Attempt) -> bool
         ensures own { IsTrue result → at self.new.by_member member ≡ Some attempt }
         ensures full { IsFalse result → at self.new.by_member member ≡ at self.old.by_member member }
@@ -59,7 +59,7 @@ impl Book {
         is_noted
     }
 
-    /// Forgets a member.
+    /// Forgets a member's callback.
     pub(crate) fn forget(&mut self, member: u64)
         ensures own { at self.new.by_member member ≡ None }
         ensures others { OthersStay self.old.by_member self.new.by_member member }
@@ -68,7 +68,7 @@ impl Book {
         self.by_member.remove(&member);
     }
 
-    /// Copies a member's callback, where one is remembered.
+    /// Copies a member's callback, if one is remembered.
     pub(crate) fn find(&self, alloc: Global, member: u64) -> Result<Option<Attempt>, AllocError>
         ensures { IfOk result (λ found. IsCopy found (at self.now.by_member member)) }
     {

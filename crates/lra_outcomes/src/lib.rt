@@ -1,4 +1,4 @@
-//! The outcomes of the last callbacks of a journal's members, where these weren't brought further.
+//! The outcomes of the last callbacks of a journal's members, where they didn't advance the members.
 #![tactic(auto)]
 
 mod attempt;

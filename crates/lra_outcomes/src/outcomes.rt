@@ -1,4 +1,4 @@
-//! The callbacks that several threads note and read.
+//! The last callbacks, which several threads note and read.
 
 use crate::attempt::Attempt;
 use crate::book::Book;
@@ -8,20 +8,20 @@ use std::collections::HashSet;
 use std::sync::atomic::{AtomicBool, Ordering};
 use std::sync::{Mutex, Wait};
 
-/// The outcomes of the last callbacks of a journal's members, by member, where these weren't brought further. Threads
-/// share them. [`MOST`](crate::MOST) members are remembered at most; what finds no room isn't, and is counted.
+/// Outcomes of the last callbacks of a journal's members, by member, where they didn't advance the member. Threads
+/// share them. At most [`MOST`](crate::MOST) members are remembered. A callback that finds no room is only counted.
 #[derive(Drop)]
 pub struct Outcomes {
     alloc: Global,
     book: Mutex<Book>,
-    /// Members that aren't told any more that their action has ended, since operators gave them up.
+    /// Members that get no more callbacks about the end of their action, since operators gave them up.
     given_up: Mutex<HashSet<u64>>,
-    /// There may be some.
+    /// Flag that `given_up` may have members. It spares a lock while it never had one.
     gives_up: AtomicBool,
 }
 
 impl Outcomes {
-    /// None is remembered.
+    /// Makes outcomes of which none is remembered.
     pub fn new(alloc: Global) -> Outcomes {
         Outcomes {
             alloc,
@@ -31,7 +31,7 @@ impl Outcomes {
         }
     }
 
-    /// Remembers a member's callback that didn't bring it further, in place of the one before.
+    /// Remembers a member's callback that didn't advance it, in place of the one before.
     pub fn note<R: Wait>(&self, rt: &R, member: u64, address: &str, reply: Reply, moment: u64) {
         match Attempt::new(self.alloc, address, reply, moment) {
             Ok(attempt) => {
@@ -41,12 +41,12 @@ impl Outcomes {
         }
     }
 
-    /// Forgets a member, which got further.
+    /// Forgets the callback of a member that advanced.
     pub fn forget<R: Wait>(&self, rt: &R, member: u64) {
         self.book.lock(rt).forget(member);
     }
 
-    /// Copies the last callback of a member, where it didn't bring it further.
+    /// Copies the last callback of a member, if one is remembered.
     pub fn find<R: Wait>(
         &self,
         rt: &R,
@@ -56,19 +56,19 @@ impl Outcomes {
         self.book.lock(rt).find(alloc, member)
     }
 
-    /// Marks a member as one that isn't told any more that its action has ended.
+    /// Marks a member as given up: it gets no more callbacks about the end of its action.
     pub fn give_up<R: Wait>(&self, rt: &R, member: u64) -> Result<(), AllocError> {
         self.given_up.lock(rt).insert(member)?;
         self.gives_up.store(true, Ordering::SeqCst);
         Ok(())
     }
 
-    /// Removes that mark.
+    /// Removes the mark that a member is given up.
     pub fn take_up<R: Wait>(&self, rt: &R, member: u64) {
         self.given_up.lock(rt).remove(&member);
     }
 
-    /// Returns whether a member isn't told any more that its action has ended.
+    /// Returns whether a member is given up.
     pub fn is_given_up<R: Wait>(&self, rt: &R, member: u64) -> bool {
         self.gives_up.load(Ordering::SeqCst) && self.given_up.lock(rt).contains(&member)
     }

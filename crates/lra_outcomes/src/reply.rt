@@ -7,7 +7,7 @@ ghost use Rattle.lra_outcomes.specs.Replies.{words_of};
 use itoa::Buffer;
 use std::alloc::AllocError;
 
-/// The outcome of a callback that didn't bring its member further.
+/// Outcome of a callback that didn't advance its member.
 #[derive(Clone, Copy, Debug, PartialEq, Eq)]
 pub enum Reply {
     /// The rules for members don't allow any of its addresses.
@@ -20,26 +20,26 @@ pub enum Reply {
     TimedOut { seconds: u64 },
     /// The connection ended before the whole response.
     Cut,
-    /// The bytes that came are no response that is read.
+    /// The bytes that came are no response that can be read.
     NotHttp,
-    /// It was answered with that code.
+    /// The member answered with that code.
     Answered { code: u16 },
-    /// It was answered with that code and a body that names no state, where a state was asked for.
+    /// The member answered with that code and a body that names no state, where a state was asked for.
     NoState { code: u16 },
-    /// It was answered that the member is at it.
+    /// The member answered that it is still at work.
     AtIt { code: u16 },
-    /// The request was not sent: memory or a descriptor was refused, or the disk has failed.
+    /// The request wasn't sent: memory or a descriptor was refused, or the disk has failed.
     NotSent,
 }
 
-/// Adds a text as it stands.
+/// Appends a text unchanged.
 fn put(page: &mut Vec<u8>, text: &str) -> Result<(), AllocError>
     ensures { OnOk result (page.new.items ≡ page.old.items ++ text.now) }
 {
     page.extend_from_slice(text.as_bytes())
 }
 
-/// Adds a number in digits.
+/// Appends a number in digits.
 fn put_number(page: &mut Vec<u8>, number: u64) -> Result<(), AllocError>
     ensures { OnOk result (page.new.items ≡ page.old.items ++ decimal number) }
 {
@@ -47,7 +47,7 @@ fn put_number(page: &mut Vec<u8>, number: u64) -> Result<(), AllocError>
     page.extend_from_slice(buffer.format(number).as_bytes())
 }
 
-/// Adds "answered" and a code.
+/// Appends "answered" and a code.
 fn put_code(code: u16, page: &mut Vec<u8>) -> Result<(), AllocError>
     ensures { OnOk result (page.new.items ≡ page.old.items ++ words_of (Reply.Answered code)) }
 {
@@ -55,7 +55,7 @@ fn put_code(code: u16, page: &mut Vec<u8>) -> Result<(), AllocError>
     put_number(page, code as u64)
 }
 
-/// Adds "timed out after" and a number.
+/// Appends "timed out after" and a number.
 fn put_time(seconds: u64, page: &mut Vec<u8>) -> Result<(), AllocError>
     ensures { OnOk result (page.new.items ≡ page.old.items ++ codes "timed out after " ++ decimal seconds) }
 {
@@ -63,7 +63,7 @@ fn put_time(seconds: u64, page: &mut Vec<u8>) -> Result<(), AllocError>
     put_number(page, seconds)
 }
 
-/// Adds a reply in words. Where memory is refused a front of them may have been added.
+/// Appends an outcome in words. Where memory is refused, a prefix of them may have been appended.
 pub fn put_words(reply: Reply, page: &mut Vec<u8>) -> Result<(), AllocError>
     ensures { OnOk result (page.new.items ≡ page.old.items ++ words_of reply) }
 {

@@ -1,11 +1,11 @@
-//! Asks that nothing waits for.
+//! Asks whose answer nothing waits for.
 
 ghost use Rattle.std.specs.Prelude.{◌≡◌};
 ghost use Rattle.lra_outcomes.specs.Telling as spec;
 
 use lra_model::AskKind;
 
-/// Returns whether an ask only tells a member how its action ended, so that nothing waits for its answer.
+/// Returns whether an ask only notifies a member of how its action ended. Nothing waits for its answer.
 pub fn is_telling(kind: AskKind) -> bool
     ensures { result ≡ spec.is_telling kind }
 {

@@ -90,7 +90,7 @@ replied_ordered : (o : Option StreamEnd) (h : History) (request : Request) (rest
 replied_ordered None h request rest e r = r
 replied_ordered (Some end) h request rest e r = absurd cc
 
--- where none stands, the requests that were answered are all that was read
+-- where no request stands, the requests that were answered are all that were read
 pub all_read : (h : History) → IsServed h → h.stands ≡ None → Spells h.taken (map plain h.turns) h.kept
 all_read h s none = let here : s.behind ≡ h.kept = subst
     (λ (o : Option Request). StandsAt o s.behind h.kept) none s.standing in
@@ -107,7 +107,7 @@ served_ordered h request n s free is = record {
   bound = omega (arith, s.bound, length-drop n h.kept);
 }
 
--- ---- it is answered
+-- ---- a request is answered
 
 -- while a request stands the stream goes on
 goes_on : (o : Option StreamEnd) (h : History) (request : Request) → IsOpenSo o h → h.stands ≡ Some request → o ≡ None
@@ -176,7 +176,7 @@ served_lost h turn s stands =
       bound = s.bound;
     }
 
--- ---- it ends
+-- ---- the connection ends
 
 pub refuses : (bytes : List ℕ) (fault : WireFault) → RefusesFront bytes fault → RefusesRequest bytes fault
 refuses bytes BadHead h = h
@@ -220,7 +220,7 @@ served_ended h end s free e =
       bound = s.bound;
     }
 
--- ---- bytes are handed out
+-- ---- bytes are sent
 
 open_went : (o : Option StreamEnd) (h : History) (n : ℕ) → IsOpenSo o h → IsOpenSo o (went h n)
 open_went None h n s = s
@@ -250,7 +250,7 @@ served_went h n s = record {
   bound = s.bound;
 }
 
--- ---- what the fields say
+-- ---- what the fields mean
 
 dropped : (front more : List ℕ) → drop (length front) (front ++ more) ≡ more
 dropped [] more = refl
@@ -267,7 +267,7 @@ took_is h more kept old new place t p k n =
     ∙ ap (λ xs. xs ++ more) (sym t) in
     λ i. record h { taken = all i; kept = k i }
 
--- bytes were handed out
+-- bytes were sent
 pub went_is : (h : History) (count : ℕ) (out : List ℕ) (old new : List (List ℕ)) → h.sent ≡ flat_map (λ t. t) old → new
     ≡ old ++ take count h.out ∷ [] → out ≡ drop count h.out
     → record h { sent = flat_map (λ t. t) new; out = out } ≡ went h count
@@ -282,12 +282,12 @@ pub ordered_is : (h : History) (n : ℕ) (kept : List ℕ) (request : Request) �
     → record h { kept = kept; stands = Some request } ≡ ordered h request (drop n h.kept)
 ordered_is h n kept request k = λ i. record h { kept = k i; stands = Some request }
 
--- none stands
+-- no request stands
 pub none_stands : (o : Option RequestRead) → is_some o ≡ false → option_map request_of o ≡ None
 none_stands None e = refl
 none_stands (Some request) e = absurd cc
 
--- it ended
+-- the connection ended
 pub ended_is : (h : History) (end : StreamEnd) (out : List ℕ) → out ≡ h.out ++ end_reply h.instance h.base end
     → record h { out = out; ended = Some end } ≡ ended_by h end
 ended_is h end out o = λ i. record h { out = o i; ended = Some end }
@@ -309,7 +309,7 @@ quiet_end h WriteFault e = absurd e
 pub last_is : (left n : ℕ) → left ≡ 999 - n → (left == 0) ≡ nat_le 999 n
 last_is left n e = grind (arith, nat_tests)
 
--- the reply to a turn, by what its request says
+-- the reply to a turn, from the parts of its request
 pub reply_is : (h : History) (turn : Turn) (base : List ℕ) (left : ℕ) (head close : Bool) → base ≡ h.base → left
     ≡ 999 - length h.turns → head ≡ is_head turn.request
     → close ≡ closes_after (left == 0) turn.request → reply_bytes turn.answered.instance base turn.answered.answer head
@@ -327,7 +327,7 @@ closing : (h : History) (turn : Turn) (left : ℕ) (close : Bool) → left ≡ 9
 closing h turn left close l c = ap (λ x. cond x (Some Done) None) (c ∙ ap (λ x. closes_after x turn.request)
     (last_is left (length h.turns) l))
 
--- the answer to the request that stands was told
+-- the request that stands was replied to
 pub served_told : (h : History) (turn : Turn) (base : List ℕ) (left : ℕ) (head close : Bool)
     (replied : Result (Unit {0}) AllocError) (turns : List Turn) (ended : Option StreamEnd) (out : List ℕ)
     → IsServed h → h.stands ≡ Some turn.request → base ≡ h.base → left ≡ 999 - length h.turns → head

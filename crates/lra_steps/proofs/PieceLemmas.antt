@@ -29,7 +29,7 @@ use Rattle.lra_steps.proofs.HistoryLemmas.{all_read, refuses}
 
 -- ---- pieces
 
--- the next bytes of a piece stand behind the first
+-- the next bytes of a piece come after the first
 pub taken_more : (old before now piece : List ℕ) (m n : ℕ) → before ≡ old ++ take m piece → now ≡ before
     ++ take ((m + n) - m) (drop m piece) → now ≡ old ++ take (m + n) piece
 taken_more old before now piece m n b e =
@@ -40,7 +40,7 @@ taken_more old before now piece m n b e =
     ∙ ap (λ xs. old ++ (xs ++ next)) (sym (take-take m (m + n) piece (omega arith)))
     ∙ ap (λ xs. old ++ xs) (take-append-drop m (take (m + n) piece))
 
--- and the rest behind those
+-- and the rest after those
 pub taken_rest : (old now piece : List ℕ) (n : ℕ) → now ≡ old ++ take n piece → now ++ drop n piece ≡ old ++ piece
 taken_rest old now piece n e = ap (λ xs. xs ++ drop n piece) e ∙ append_assoc old (take n piece) (drop n piece)
     ∙ ap (λ xs. old ++ xs) (take-append-drop n piece)
@@ -52,7 +52,7 @@ next_piece f xs i x h e =
     ap (flat_map f) (take_more xs i x h) ∙ flat_map-append f (take i xs) (get_or xs i x ∷ [])
     ∙ ap (λ ys. flat_map f (take i xs) ++ ys) (append-nil (f (get_or xs i x)) ∙ ap f (sym e))
 
--- the bytes up to a place in a piece, then the rest of the piece, and the pieces behind it
+-- the bytes up to an offset in a piece, then the rest of the piece, and the pieces after it
 pub up_to : {X : Type 0} (f : X → List ℕ) (xs : List X) (i : ℕ) (x : X) (before now back : List ℕ) → i < length xs → x
     ≡ get_or xs i x
     → before ≡ flat_map f (take i xs) → now ++ back ≡ before ++ f x → now ++ (back ++ flat_map f (drop (i + 1) xs))
@@ -63,7 +63,7 @@ up_to f xs i x before now back h e b n =
     ∙ sym (next_piece f xs i x h e))
     ∙ sym (flat_map-append f (take (i + 1) xs) (drop (i + 1) xs)) ∙ ap (flat_map f) (take-append-drop (i + 1) xs)
 
--- what was handed out, and all that may be
+-- the bytes that were sent, and all those that may be
 pub handed_all : (h : History) (before sent now : List ℕ) → sent ≡ before ++ h.sent → now ≡ sent ++ h.out → now ≡ before
     ++ (went h (length h.out)).sent
 handed_all h before sent now s n =
@@ -80,7 +80,7 @@ none_left (x ∷ xs) = none_left xs
 
 -- ---- the end
 
--- it is that of all bytes, where more follow
+-- the end is that of all bytes, where more follow
 ends_more : (end : StreamEnd) (h : History) (back : List ℕ) → IsLasting end h.turns h.kept ⊎ IsTrue h.closed
     → IsFalse h.closed ⊎ (back ≡ []) → Replies (Some end) h
     → EndsAfter h.instance h.base h.turns (h.kept ++ back) (h.sent ++ h.out) end
@@ -226,7 +226,7 @@ module _ (S K : Type 0) (base_of : S → List ℕ) (responds : S → ℕ → Req
           shorter = omega (arith, request_takes h.kept request s.1 s.3, ap length t.kept);
         }
 
-  -- bytes came, or went
+  -- bytes came, or were sent
   pub follows_took : (v w : S) (k l : K) (h : History) (more : List ℕ) (new : History) → new ≡ took h more
       → Follows base_of responds tells v k h w l → Follows base_of responds tells v k new w l
   follows_took v w k l h more new e f = subst (λ (g : History). Follows base_of responds tells v k g w l) (sym e)
@@ -242,7 +242,7 @@ module _ (S K : Type 0) (base_of : S → List ℕ) (responds : S → ℕ → Req
   follows_finished v w k l h new e f = subst (λ (g : History). Follows base_of responds tells v k g w l) (sym e)
       (record { chain = f.chain; base = f.base; none = f.none })
 
-  -- how it ended, and what stays as it was
+  -- how the connection ended, and what stays as it was
   pub record Finishes (end : StreamEnd) (h new : History) (w : S) (l : K) : Type 0 where
     pub follows : (v : S) (k : K) → Follows base_of responds tells v k h w l
         → Follows base_of responds tells v k new w l
@@ -285,7 +285,7 @@ module _ (S K : Type 0) (base_of : S → List ℕ) (responds : S → ℕ → Req
     none = f.none;
   }
 
-  -- All that was answered and handed out is what all bytes come to.
+  -- All that was answered and sent is what serving all bytes does.
   pub serves : (instance : ℕ) (base : List ℕ) (v w : S) (k l : K) (h : History) (end : StreamEnd)
       (all back before out : List ℕ) → IsServed h → Follows base_of responds tells v k h w l
       → h.instance ≡ instance → h.base ≡ base → h.ended ≡ Some end → h.out ≡ [] → IsFalse h.closed ⊎ (back ≡ [])
@@ -312,7 +312,7 @@ module _ (S K : Type 0) (base_of : S → List ℕ) (responds : S → ℕ → Req
 
 -- ---- a counter that answers by itself
 
--- how it ends, as of the front
+-- how a stream ends, as for the HTTP interface
 ends_plain : (c : Setting) (end : StreamEnd) (turns : List Turn) (rest out : List ℕ) → AreOf c.instance turns
     → EndsAfter c.instance c.base turns rest out end
     → FrontEnds c 999 (map plain turns) rest out end
@@ -330,7 +330,7 @@ module _ (C K : Type 0) (sight : C → Sight) (covers : C → ℕ → Bool) (giv
     (tells : K → ℕ → K → Type 0)
     (keeps : (before after : Sight) (moment : ℕ) (o : Order) (reply : Result Told CounterFault)
     → gives before moment o reply after → KeepsHistory before moment o reply after) where
-  -- its turns are those of the front, and all of one coordinator
+  -- the turns are those of the HTTP interface, and all of one coordinator
   record Alone (v w : Sight) (k l : K) (turns : List Turn) : Type 0 where
     of : AreOf v.setting.instance turns
     chain : FrontChain gives tells v k (map plain turns) w l
@@ -347,7 +347,7 @@ module _ (C K : Type 0) (sight : C → Sight) (covers : C → ℕ → Bool) (giv
         chain = (sight c.0, c.1, c.2, given, more.chain);
       }
 
-  -- What bytes come to at such a session is what a stream of them does.
+  -- Serving bytes by such a session does what a stream of them does.
   serves_bytes : (bytes old : List ℕ) (v w : C) (k l : K) (end : StreamEnd) (new : List ℕ)
       → Serves (AnswersAlone sight covers gives) tells (sight v).setting.instance (sight v).setting.base bytes old v k
       end new w l

@@ -81,7 +81,7 @@ one_more base (suc n) (first ∷ turns) turn =
     ap (λ xs. turn_reply base false first ++ xs) (one_more base n turns turn)
     ∙ sym (append_assoc (turn_reply base false first) (replies base n turns) (turn_reply base (reaches n turns) turn))
 
--- one more request is answered, which may be the last that is taken
+-- one more request is answered, which may be the last that is accepted
 pub replies-push : (base : List ℕ) (n : ℕ) (turns : List Turn) (turn : Turn) → replies base n (turns ++ turn ∷ [])
     ≡ replies base n turns ++ turn_reply base (nat_le n (length turns)) turn
 replies-push base n turns turn = one_more base n turns turn ∙ ap (λ b. replies base n turns ++ turn_reply base b turn)
@@ -161,7 +161,7 @@ one_reply : (c : Setting) (last : Bool) (turn : Turn) → turn.answered.instance
 one_reply c last turn e = ap (λ i. reply_bytes i c.base turn.answered.answer (is_head turn.request)
     (closes_after last turn.request)) e
 
--- they are replied as the front does
+-- the replies are those of the HTTP interface
 pub replies_plain : (c : Setting) (n : ℕ) (turns : List Turn) → AreOf c.instance turns → replies c.base n turns
     ≡ front_replies c n (map plain turns)
 replies_plain c n [] of = refl

@@ -1,4 +1,4 @@
--- Connections whose requests a responder answers, and streams that come in pieces to a counter.
+-- Connections whose requests a handler answers, and streams that come in pieces to a counter.
 use Rattle.std.specs.Prelude.{◌≡◌, ℕ, Bool, List, [], ◌∷◌, ◌++◌, map, Option, Some, None, Result}
 use Rattle.std.specs.declared.alloc.AllocError.{AllocError}
 use Rattle.lra_wire.specs.Request.{Request}
@@ -14,8 +14,8 @@ use Rattle.lra_steps.specs.Positions.{AnswersOrdered, IsCovered}
 use Rattle.lra_steps.specs.History.{History, Turn, EndsAfter, plain}
 use Rattle.lra_steps.specs.Steps.{Tells}
 
--- A session that answers by itself: what the front does over it. The answer names its identifiers, and where it has a
--- position, that covers all that the session has seen by then.
+-- A session that answers by itself, as the HTTP interface does over it. The answer names its identifiers. Where the
+-- answer has a position, that covers all that the session has seen by then.
 pub record AnswersAlone {C : Type 0} (sight : C → Sight) (covers : C → ℕ → Bool)
     (gives : Sight → ℕ → Order → Result Told CounterFault → Sight → Type 0)
     (before : C) (moment : ℕ) (request : Request) (answered : Answered) (after : C) : Type 0 where
@@ -24,14 +24,15 @@ pub record AnswersAlone {C : Type 0} (sight : C → Sight) (covers : C → ℕ �
   pub covered : IsCovered covers after answered
 
 module _ {S K : Type 0} (responds : S → ℕ → Request → Answered → S → Type 0) (tells : K → ℕ → K → Type 0) where
-  -- one turn after another: the clock tells its moment, and its request is answered at that moment
+  -- one turn after another: the clock returns its moment, and its request is answered at that moment
   abbrev pub Chain : S → K → List Turn → S → K → Type 0
   Chain v k [] w l = (w ≡ v) × (l ≡ k)
   Chain v k (turn ∷ turns) w l =
       (u : S) × (j : K) × tells k turn.moment j × responds v turn.moment turn.request turn.answered u
       × Chain u j turns w l
 
-  -- a request is answered so at a moment that the clock tells, and replied, unless memory for that is refused
+  -- a request is answered at a moment that the clock returns, and the answer is replied, unless memory for that is
+  -- refused
   pub record Answers (request : Request) (answered : Answered) (v w : S) (k l : K) (old new : History) : Type 0 where
     pub moment : ℕ
     pub clocked : tells k moment l
@@ -39,8 +40,8 @@ module _ {S K : Type 0} (responds : S → ℕ → Request → Answered → S →
     pub reply : Result (Unit {0}) AllocError
     pub told : Tells reply old new (record { request = request; moment = moment; answered = answered })
 
-  -- What bytes come to: the requests that they spell are answered one after another, and replied in their order, each
-  -- by whose answer it is. The instance is that of replies to faults of reading.
+  -- What serving bytes does: the requests that they spell are answered one after another, and the replies come in their
+  -- order. Each names the instance that answered. The instance here is that of replies to faults of reading.
   pub record Serves (instance : ℕ) (base bytes old : List ℕ) (v : S) (k : K) (end : StreamEnd) (new : List ℕ) (w : S)
       (l : K) : Type 0 where
     pub turns : List Turn
@@ -53,7 +54,8 @@ module _ {S K : Type 0} (responds : S → ℕ → Request → Answered → S →
 
 module _ {S K : Type 0} (responds : S → ℕ → Request → Answered → S → Type 0) (rests : S → S → Type 0)
     (tells : K → ℕ → K → Type 0) where
-  -- one turn after another as in a chain, with rests between them: there is a turn, or none where the responder rests
+  -- turns one after another as in a chain, with rests between them: each item is a turn, or none where the handler
+  -- rests
   abbrev pub Course : S → K → List (Option Turn) → S → K → Type 0
   Course v k [] w l = (w ≡ v) × (l ≡ k)
   Course v k (Some turn ∷ xs) w l =
@@ -69,7 +71,7 @@ turns_in (None ∷ xs) = turns_in xs
 
 module _ {K : Type 0} (gives : Sight → ℕ → Order → Result Told CounterFault → Sight → Type 0)
     (tells : K → ℕ → K → Type 0) where
-  -- what these bytes come to is what a stream of them does (`AreTranscripts`), where its end and what went out are
+  -- serving these bytes does what a stream of them does (`AreTranscripts`), where its end and what was written are
   -- known
   abbrev pub ServesBytes : List ℕ → List ℕ → Sight → K → StreamEnd → List ℕ → Sight → K → Type 0
   ServesBytes bytes old v k end new w l = Transcript gives tells 999 bytes old (standing (Some bytes) v k (Some old))

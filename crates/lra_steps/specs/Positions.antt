@@ -1,4 +1,4 @@
--- What of a journal an answer rests on.
+-- The position in a journal that an answer depends on.
 use Rattle.std.specs.Prelude.{ℕ, Bool, None, is_some, IfSome, IsTrue, Result}
 use Rattle.lra_wire.specs.Request.{Request}
 use Rattle.lra_commands.specs.declared.command.Told.{Told}
@@ -10,16 +10,16 @@ use Rattle.lra_front.specs.declared.denial.Denial.{Denial}
 use Rattle.lra_front.specs.Serving.{Orders}
 use Rattle.lra_steps.specs.declared.responder.Answered.{Answered}
 
--- a denial that no coordinator was asked for: it has no position
+-- an API error for which no coordinator was asked: it has no position
 abbrev pub denied : ℕ → Denial → Answered
 denied instance denial = record { instance = instance; answer = Denied denial; position = None }
 
--- what the front does over a counter: an order was given where the answer has a position, and none where it has none
+-- what the HTTP interface does over a counter: an order was given if and only if the answer has a position
 abbrev pub AnswersOrdered : (Sight → ℕ → Order → Result Told CounterFault → Sight → Type 0) → Sight → ℕ → Request
     → Answered → Sight → Type 0
 AnswersOrdered gives before moment request answered after =
     Orders gives before moment request after answered.answer (is_some answered.position)
 
--- so many bytes of its journal tell of all that a session has seen, where the answer has a position
+-- if the answer has a position, so many bytes of the session's journal record all that the session has seen
 abbrev pub IsCovered : {C : Type 0} → (C → ℕ → Bool) → C → Answered → Type 0
 IsCovered covers session answered = IfSome answered.position (λ n. IsTrue (covers session n))

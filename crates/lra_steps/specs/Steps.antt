@@ -1,4 +1,4 @@
--- What a step says.
+-- What a step means.
 use Rattle.std.specs.Prelude.{◌≡◌, ◌≢◌, ◌⊎◌, ◌<◌, ◌≤◌, Bool, true, false, List, [], ℕ, length, Some, None, Result, Ok}
 use Rattle.std.specs.Prelude.{Err, IsTrue, IsFalse, IsSome}
 use Rattle.std.specs.declared.alloc.AllocError.{AllocError}
@@ -15,14 +15,14 @@ use Rattle.lra_steps.specs.History.{History, Turn, room_of, took, ordered, answe
 abbrev pub IsFree : History → Type 0
 IsFree h = (h.ended ≡ None) × (h.stands ≡ None)
 
--- Why it ends: no more bytes come and none are kept, or what is kept is no request and can't become one.
+-- Why a connection ends: no more bytes come and none are kept, or the kept bytes are no request and can't become one.
 abbrev pub Ends : StreamEnd → History → Type 0
 Ends Done h = IsTrue h.closed × (h.kept ≡ [])
 Ends (Refused fault) h = ((fault ≢ Memory) × RefusesFront h.kept fault)
     ⊎ (IsTrue h.closed × (fault ≡ Cut) × RefusesRequest h.kept Cut)
 Ends WriteFault h = ⊥
 
--- what a step says of the history before it, and what it changes
+-- what a step means for the history before it, and what it changes
 abbrev pub StepsTo : Step → History → History → Type 0
 StepsTo Wants old new = IsFree old × IsFalse old.closed × AwaitsRequest old.kept × (length old.kept < 73728)
     × (new ≡ old)
@@ -32,12 +32,12 @@ StepsTo Waits old new = (old.ended ≡ None) × IsSome old.stands × (new ≡ ol
 StepsTo (Ended end) old new = ((old.ended ≡ Some end) × (new ≡ old)) ⊎
     (IsFree old × Ends end old × (new ≡ ended_by old end))
 
--- where memory is refused nothing changes
+-- a step, or that memory was refused, where nothing changes
 abbrev pub Steps : Result Step AllocError → History → History → Type 0
 Steps (Ok step) old new = StepsTo step old new
 Steps (Err _) old new = new ≡ old
 
--- the bytes were taken, or there is no room for them
+-- the bytes were accepted, or there is no room for them
 abbrev pub Takes : Result Bool AllocError → List ℕ → History → History → Type 0
 Takes (Ok true) bytes old new = (length bytes ≤ room_of old) × (new ≡ took old bytes)
 Takes (Ok false) bytes old new = (room_of old < length bytes) × (new ≡ old)

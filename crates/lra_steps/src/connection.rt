@@ -1,4 +1,4 @@
-//! One connection.
+//! A connection of HTTP/1.1 without its socket.
 ghost use Rattle.std.specs.Prelude.{
   ◌≡◌,
   ◌≤◌,
@@ -41,54 +41,54 @@ use std::alloc::{AllocError, Global};
 use std::marker::Model;
 use std::snapshot::Snapshot;
 
-/// The most bytes that are kept: those of the largest request, a head of 8,192 bytes and a body of 65,536.
+/// Largest number of bytes that are kept: those of the largest request, a head of 8,192 bytes and a body of 65,536.
 const MAX_KEPT: usize = 73_728;
 
-/// The most requests that are taken, beside the last.
+/// Largest number of requests that are accepted, beside the last.
 const MOST_OTHERS: u64 = 999;
 
-/// The step that comes next.
+/// Step that comes next.
 #[derive(Clone, Copy, Debug, PartialEq, Eq)]
 pub enum Step {
-    /// More bytes are wanted.
+    /// More bytes have to come.
     Wants,
-    /// A request was read, and stands: it is to be answered, once.
+    /// A request was read, and stands: the caller has to answer it, once.
     Stands,
     /// The request that stands wasn't answered yet.
     Waits,
-    /// No request comes any more: what is left is to be handed out.
+    /// No request comes any more. The caller has to send what is left of the output.
     Ended(StreamEnd),
 }
 
-/// An answer, and the moment at which it was given.
+/// Answer, and the moment at which it was given.
 #[derive(Clone, Copy)]
 struct Reply {
     moment: u64,
     answered: Answered,
 }
 
-/// A connection of HTTP/1.1, as steps. A contract sees its history.
+/// Connection of HTTP/1.1, as steps. A contract sees its history.
 #[derive(Drop)]
 pub struct Connection {
     alloc: Global,
-    /// Whose identifiers the reply to a fault of reading names.
+    /// Instance whose identifiers the reply to a fault of reading names.
     instance: Instance,
     kept: Queue,
     out: Queue,
-    /// The parts that were found of what is kept, so that it isn't read anew with each piece.
+    /// Findings on the bytes that are kept, so that they aren't read anew with each piece.
     seen: Seen,
-    /// The request that stands to be answered.
+    /// Request that stands to be answered.
     stands: Option<RequestRead>,
     ended: Option<StreamEnd>,
     closed: bool,
-    /// The number of requests that are still taken, beside the last.
+    /// Number of requests that are still accepted, beside the last.
     left: u64,
-    /// The base that the URIs in replies begin with. From here on all is for contracts, and takes no memory.
+    /// Base that the URIs in replies begin with. This field and those after it are for contracts, and take no memory.
     base: Snapshot<Base>,
-    /// The bytes that were kept after each piece came, and the place where the piece begins.
+    /// Bytes that were kept after each piece came, and the offset at which the piece begins.
     reads: Log<Queue, usize>,
     turns: Log<RequestRead, Reply>,
-    /// The output before each time that bytes were handed out, and how many went.
+    /// Output before each time that bytes were sent, and the number of bytes that were sent.
     writes: Log<Queue, usize>,
 }
 
@@ -104,36 +104,36 @@ impl Model for Connection {
     ghost invariant = { Holds };
 }
 
-/// Notes what stands in a queue from a place on.
+/// Notes what a queue has from an offset on.
 fn note_back(log: &mut Log<Queue, usize>, queue: &Queue, place: usize)
     ensures { backs log.new.items ≡ backs log.old.items ++ drop place queue.now ∷ [] }
 {
     *log = log.and(queue, &place);
 }
 
-/// Notes what stands in a queue before a place.
+/// Notes what a queue has before an offset.
 fn note_front(log: &mut Log<Queue, usize>, queue: &Queue, place: usize)
     ensures { fronts log.new.items ≡ fronts log.old.items ++ take place queue.now ∷ [] }
 {
     *log = log.and(queue, &place);
 }
 
-/// A request and its answer are noted.
+/// Notes a request and its answer.
 fn note_turn(log: &mut Log<RequestRead, Reply>, request: &RequestRead, reply: &Reply)
     ensures { map turn_of log.new.items ≡ map turn_of log.old.items ++ turn_of (request.now, reply.now) ∷ [] }
 {
     *log = log.and(request, reply);
 }
 
-/// The request stands no more.
+/// Clears the request that stands.
 fn let_go(stands: &mut Option<RequestRead>)
     ensures { stands.new ≡ None }
 {
     *stands = None;
 }
 
-/// The request at the front of what is kept. While bytes may come it is looked for only where it can be whole since
-/// what was seen.
+/// Returns the request that the kept bytes begin with, if it is whole. While bytes may come, it reads them only where a
+/// request may have become whole since what was seen.
 fn next_front(
     alloc: Global,
     kept: &[u8],
@@ -151,7 +151,7 @@ fn next_front(
     }
 }
 
-/// Returns how a connection ends where more of a request is wanted: not at all while bytes may come.
+/// Returns how a connection ends where more of a request is wanted. It doesn't end while bytes may come.
 fn end_without(closed: bool, kept: &[u8]) -> Option<StreamEnd>
     requires { IsTrue closed → IsUnfinished kept.now }
     ensures { EndsWithout closed kept.now result }
@@ -165,21 +165,22 @@ fn end_without(closed: bool, kept: &[u8]) -> Option<StreamEnd>
     }
 }
 
-/// Returns whether the head of a reply alone is asked for.
+/// Returns whether a request asks for the head of its reply alone.
 fn is_head(request: &RequestRead) -> bool
     ensures { result ≡ stream.is_head (request_of request.now) }
 {
     request.method.as_str() == Method::HEAD.as_str()
 }
 
-/// Returns whether the stream is closed after a request: where it asks for that, or is the last that is taken.
+/// Returns whether the stream is closed after a request: it asks for that, or is the last that is accepted.
 fn closes_after(request: &RequestRead, left: u64) -> bool
     ensures { result ≡ stream.closes_after (left == 0) (request_of request.now) }
 {
     request.close || left == 0
 }
 
-/// Returns how a connection ends with a reply: it ends where the reply is lost, or the stream is closed after it.
+/// Returns how a connection ends with a reply, if it does. It ends where the reply is lost, or the stream is closed
+/// after the reply.
 fn end_after(replied: bool, close: bool) -> Option<StreamEnd>
     ensures { result ≡ (if replied then (if close then Some Done else None) else Some WriteFault) }
 {
@@ -193,8 +194,8 @@ fn end_after(replied: bool, close: bool) -> Option<StreamEnd>
 }
 
 impl Connection {
-    /// A connection at which all URIs begin with that base, and replies to faults of reading name identifiers of that
-    /// instance.
+    /// Makes a connection at which all URIs begin with that base. Its replies to faults of reading name identifiers of
+    /// that instance.
     pub fn new(alloc: Global, instance: Instance, base: &Base) -> Connection
         ensures { result ≡ begun instance base.now }
     {
@@ -222,7 +223,7 @@ impl Connection {
         let _closed = self.closed;
     }
 
-    /// Returns how many bytes may be taken.
+    /// Returns how many more bytes the connection accepts.
     pub fn room(&self) -> usize
         ensures { result ≡ room_of self.now }
     {
@@ -233,7 +234,7 @@ impl Connection {
         }
     }
 
-    /// These bytes came, if there is room for them: else they aren't taken.
+    /// Accepts bytes that came, if there is room for all of them. Returns whether it did.
     pub fn take(&mut self, bytes: &[u8]) -> Result<bool, Memory>
         ensures { Takes result bytes.now self.old self.new }
     {
@@ -246,14 +247,14 @@ impl Connection {
         Ok(true)
     }
 
-    /// No more bytes come.
+    /// Notes that no more bytes come.
     pub fn finish(&mut self)
         ensures { self.new ≡ finished self.old }
     {
         self.closed = true;
     }
 
-    /// The next step. Where memory is refused nothing changes.
+    /// Returns the next step. Where memory is refused, nothing changes.
     pub fn next(&mut self, base: &Base) -> Result<Step, Memory>
         requires value { base.now ≡ self.old.base }
         ensures { Steps result self.old self.new }
@@ -294,7 +295,7 @@ impl Connection {
         }
     }
 
-    /// The request that stands to be answered.
+    /// Returns the request that stands to be answered, if one does.
     pub fn request(&self) -> Option<&RequestRead>
         ensures { option_map (λ request. request_of request.now) result ≡ self.now.stands }
     {
@@ -304,9 +305,9 @@ impl Connection {
         }
     }
 
-    /// The answer to the request that stands, and the moment at which it was given: the reply names identifiers of the
-    /// instance whose answer it is. Where memory for it is refused, the reply is lost and the connection ends: the
-    /// request doesn't stand any more in any case.
+    /// Replies to the request that stands with an answer, which was given at that moment. The reply names identifiers
+    /// of the instance that answered. Where memory for it is refused, the reply is lost and the connection ends. The
+    /// request doesn't stand any more in either case.
     pub fn told(&mut self, base: &Base, moment: u64, answered: Answered) -> Result<(), Memory>
         requires stands { IsSome self.old.stands }
         requires numbers { HasIdentifiers answered.answer }
@@ -335,14 +336,14 @@ impl Connection {
         replied
     }
 
-    /// The bytes that may be handed out.
+    /// Returns the bytes of replies that may be sent.
     pub fn out(&self) -> &[u8]
         ensures { result.now ≡ self.now.out }
     {
         self.out.as_slice()
     }
 
-    /// So many of them were handed out.
+    /// Drops the first `count` bytes of the output, which were sent.
     pub fn gone(&mut self, count: usize)
         requires { count ≤ length self.old.out }
         ensures { self.new ≡ went self.old count }

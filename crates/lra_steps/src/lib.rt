@@ -1,5 +1,5 @@
-//! A connection as steps over bytes: it has no socket, no thread and no clock. Its caller moves the bytes, and has each
-//! request answered.
+//! A connection as steps over bytes: it has no socket, no thread and no clock. Its caller moves the bytes, and answers
+//! each request.
 #![tactic(auto)]
 
 mod connection;

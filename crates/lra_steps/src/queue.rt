@@ -1,14 +1,15 @@
-//! Bytes that go in at the back and leave at the front.
+//! A queue of bytes.
 ghost use Rattle.std.specs.Prelude.{◌≡◌, ◌≤◌, [], ◌++◌, length, drop, OnOk, OnErr};
 
 use std::alloc::{AllocError, Global};
 use std::marker::Model;
 
-/// The most memory that is kept while there are no bytes: enough for a short message, so that one after another takes
-/// no memory anew.
+/// Largest capacity that an empty queue keeps. It is enough for a short message, so that short messages one after
+/// another need no new memory.
 const LEAST: usize = 256;
 
-/// A contract sees the bytes that are still there. It has more than a little memory only while there are some.
+/// Queue of bytes: they enter at the back and leave at the front. A contract sees the bytes that are still there. An
+/// empty queue has little memory.
 #[derive(Drop)]
 pub(crate) struct Queue {
     bytes: Vec<u8>,
@@ -41,7 +42,7 @@ impl Queue {
         &self.bytes.as_slice()[self.gone..]
     }
 
-    /// Appends bytes, behind what is moved to the front of its memory.
+    /// Appends bytes. It first moves the bytes that are still there to the front of their buffer.
     pub(crate) fn push(&mut self, more: &[u8]) -> Result<(), AllocError>
         ensures ok { OnOk result (self.new ≡ self.old ++ more.now) }
         ensures err { OnErr result (self.new ≡ self.old) }
@@ -53,7 +54,7 @@ impl Queue {
         self.bytes.extend_from_slice(more)
     }
 
-    /// The first bytes leave.
+    /// Removes the first `count` bytes.
     pub(crate) fn advance(&mut self, count: usize)
         requires { count ≤ length self.old }
         ensures { self.new ≡ drop count self.old }
@@ -64,7 +65,7 @@ impl Queue {
         }
     }
 
-    /// All bytes leave.
+    /// Removes all bytes, and frees the memory where that is more than a little.
     fn clear(&mut self)
         ensures { self.new ≡ [] }
     {

@@ -10,7 +10,7 @@ use lra_model::Memory;
 use lra_wire::WireFault;
 use std::alloc::{AllocError, Global};
 
-/// The number of bytes that a reply has room for from the start: most replies take fewer.
+/// Number of bytes that a reply has room for from the start. Most replies take fewer.
 const PAGE: usize = 512;
 
 /// Appends the reply to an answer.

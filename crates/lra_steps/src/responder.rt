@@ -1,4 +1,4 @@
-//! The responder, which answers requests.
+//! Handlers, which answer requests.
 
 ghost use Rattle.std.specs.Prelude.{◌≡◌};
 ghost use Rattle.lra_wire.specs.Request.{request_of};
@@ -11,19 +11,20 @@ use lra_ids::{Base, Instance};
 use lra_wire::RequestRead;
 use std::alloc::Global;
 
-/// The answer to a request, and what of a journal it rests on.
+/// Answer to a request, and the position in a journal that it depends on.
 #[derive(Clone, Copy, Debug, PartialEq, Eq)]
 pub struct Answered {
-    /// The instance whose identifiers the answer names.
+    /// Instance whose identifiers the answer names.
     pub instance: Instance,
     pub answer: Answer,
-    /// The answer's position: how many bytes that were appended to the instance's journal, since it was opened, tell of
-    /// all that the answer rests on. It has none where no coordinator was asked: it waits for nothing.
+    /// Position of the answer: the number of bytes, of those appended to the instance's journal since it was opened,
+    /// that record all that the answer depends on. An answer has none, and waits for nothing, where no coordinator was
+    /// asked.
     pub position: Option<u64>,
 }
 
 impl Answered {
-    /// Returns a denial that no coordinator was asked for.
+    /// Returns an API error for which no coordinator was asked.
     pub fn denied(instance: Instance, denial: Denial) -> Answered
         ensures { result ≡ denied instance denial }
     {
@@ -35,22 +36,22 @@ impl Answered {
     }
 }
 
-/// A responder to requests: a counter, or several of which each request names one.
+/// Handler of requests: a counter, or several of which each request names one.
 ///
-/// Callers know of it what all its URIs begin with. What an answer does, and what a rest does, are relations that are
-/// fixed by the type; whatever these are, it is a law that those URIs go on to begin so.
+/// Callers know the base that all its URIs begin with. The type fixes two relations: what an answer does, and what a
+/// rest does. It is a law that neither changes that base.
 pub trait Responder {
     ghost use Rattle.std.specs.Prelude.{◌≡◌, ℕ, List};
     ghost use Rattle.lra_wire.specs.Request.{Request};
     ghost use Rattle.lra_steps.specs.declared.responder.Answered.{Answered};
 
-    // What there is to know of it.
+    // What can be known of the handler.
     ghost State: { Type 0 };
 
-    // What callers know of it.
+    // What callers know of the handler.
     ghost sight: { Self → State };
 
-    // What its URIs begin with, where that is known.
+    // The base that its URIs begin with, given what is known.
     ghost base_of: { State → List ℕ };
 
     // What a request at a moment does: what is known before it, its answer, and what is known after it.
@@ -59,11 +60,12 @@ pub trait Responder {
     // What a rest does: what is known before it and after it.
     ghost rests: { State → State → Type 0 };
 
-    /// Returns the base that all its URIs begin with. This takes no memory.
+    /// Returns the base that all its URIs begin with. It allocates no memory.
     fn base(&self) -> &Base
         ensures { result.now ≡ base_of (sight self.now) };
 
-    /// Whose identifiers a reply may name that answers no request: one to a fault of reading. This takes no memory.
+    /// Returns the instance whose identifiers a reply to a fault of reading names. Such a reply answers no request. It
+    /// allocates no memory.
     fn instance(&self) -> Instance;
 
     /// Answers a request at a moment, in milliseconds.
@@ -75,24 +77,23 @@ pub trait Responder {
         request: &RequestRead,
     ) -> Answered
         ensures responds { responds (sight self.old) moment (request_of request.now) result (sight self.new) }
-        // Its numbers are those that identifiers can have.
+        // The answer's numbers are those that identifiers can have.
         ensures identifiers { HasIdentifiers result.answer };
 
-    /// Nobody asks for anything: what is held for nothing may be let go. This is called now and then, and so takes no
-    /// long time.
+    /// Releases what is held for nothing, while no request comes. It is called now and then, and so has to be short.
     fn rest(&mut self)
         ensures rests { rests (sight self.old) (sight self.new) };
 
-    // Whatever an answer does, the URIs go on to begin so.
+    // Whatever an answer does, the base of the URIs stays.
     ghost stays: { (before after : State) (moment : ℕ) (request : Request) (answered : Answered)
         → responds before moment request answered after → base_of after ≡ base_of before };
 
-    // Nor does a rest change that.
+    // A rest doesn't change the base either.
     ghost rest_stays: { (before after : State) → rests before after → base_of after ≡ base_of before };
 }
 
-/// A session answers all requests by itself, as the front does over it, and a rest does nothing. An answer for which an
-/// order was given has the session's position after the order.
+/// Session as a handler: it answers all requests by itself, as `Routes::respond` does over it. A rest does nothing. An
+/// answer for which an order was given has the session's position after the order.
 impl<C: Session> Responder for C {
     ghost use Rattle.std.specs.Prelude.{◌≡◌};
     ghost use Rattle.lra_steps.specs.Pieces.{AnswersAlone};

@@ -1,4 +1,4 @@
-//! Callers of connections: one that has a request answered, and one that has pieces in place of a socket.
+//! Callers of connections: one answers the request that stands, and one serves pieces of bytes in place of a socket.
 ghost use Rattle.std.specs.Prelude.{◌≡◌, ℕ, ◌++◌, flat_map, length, None, IfOk, IfSome, IsSome, OnOk};
 ghost use Rattle.lra_steps.specs.History.{went};
 ghost use Rattle.lra_steps.specs.Pieces.{Answers, Serves, ServesBytes};
@@ -12,8 +12,8 @@ use lra_ids::Instance;
 use lra_model::Memory;
 use std::alloc::Global;
 
-/// Answers the request that stands, at the moment that the clock tells, and returns the answer. Where memory for the
-/// reply is refused, what was asked for stands all the same, and the connection ends.
+/// Answers the request that stands, at the moment that the clock returns. Returns the answer. Where memory for the
+/// reply is refused, what the request did stays done, and the connection ends.
 pub fn answer_request<A: Responder, K: Clock>(
     alloc: Global,
     routes: &Routes,
@@ -31,14 +31,14 @@ pub fn answer_request<A: Responder, K: Clock>(
         unreachable!();
     };
     let answered = responder.respond(alloc, routes, moment, request);
-    // Where its reply is lost, the connection's next step says so.
+    // Where the reply is lost, the connection's next step says so.
     let reply = answered;
     let _ = connection.told(responder.base(), moment, reply);
     answered
 }
 
-/// Takes a piece of any length, and has all requests answered that are whole. Tells how the connection ended, if it
-/// did.
+/// Feeds a piece of any length to the connection, and answers all requests that become whole. Returns how the
+/// connection ended, if it did.
 fn feed<A: Responder, K: Clock>(
     alloc: Global,
     routes: &Routes,
@@ -76,7 +76,7 @@ fn feed<A: Responder, K: Clock>(
     }
 }
 
-/// Hands out what may be.
+/// Appends to `sent` all bytes that the connection has to send.
 fn flush(connection: &mut Connection, sent: &mut Vec<u8>) -> Result<(), Memory>
     ensures connection { OnOk result (connection.new ≡ went connection.old (length connection.old.out)) }
     ensures sent { OnOk result (sent.new.items ≡ sent.old.items ++ connection.old.out) }
@@ -88,7 +88,7 @@ fn flush(connection: &mut Connection, sent: &mut Vec<u8>) -> Result<(), Memory>
     Ok(())
 }
 
-/// Answers the pieces and then the end of their stream, and hands out all replies.
+/// Serves the pieces and then the end of their stream, and appends all replies to `sent`.
 fn serve_through<A: Responder, K: Clock>(
     alloc: Global,
     routes: &Routes,
@@ -128,7 +128,7 @@ fn serve_through<A: Responder, K: Clock>(
     }
 }
 
-/// The same over a new connection, at which replies to faults of reading name identifiers of that instance.
+/// Serves the pieces over a new connection. Its replies to faults of reading name identifiers of that instance.
 fn serve_new<A: Responder, K: Clock>(
     alloc: Global,
     instance: Instance,
@@ -157,9 +157,9 @@ fn serve_new<A: Responder, K: Clock>(
     end
 }
 
-/// Answers a stream that comes in these pieces by a responder, and appends the replies: each request of it once and in
-/// order, at a moment that the clock tells, however the bytes are cut. Where memory is refused otherwise than for a
-/// reply, that is told.
+/// Answers a stream that comes in these pieces, by a handler, and appends the replies to `sent`. It answers each
+/// request once and in order, at a moment that the clock returns, however the bytes are cut. Returns an error where
+/// memory is refused, unless that is for a reply.
 pub fn answer_pieces<A: Responder, K: Clock>(
     alloc: Global,
     pieces: &[Vec<u8>],
@@ -176,9 +176,9 @@ pub fn answer_pieces<A: Responder, K: Clock>(
     serve_new(alloc, instance, pieces, sent, responder, clock)
 }
 
-/// Answers a stream that comes in these pieces, and appends the replies. What is done and replied is what
-/// `serve_stream` does and replies of all the bytes, however they are cut. Where memory is refused otherwise than for a
-/// reply, that is told.
+/// Answers a stream that comes in these pieces, and appends the replies to `sent`. It does and replies what
+/// `serve_stream` does and replies for all the bytes, however they are cut. Returns an error where memory is refused,
+/// unless that is for a reply.
 pub fn serve_pieces<C: Session, K: Clock>(
     alloc: Global,
     pieces: &[Vec<u8>],

@@ -30,7 +30,7 @@ SectionOverflows-append text rest over more fields last behind reads =
     over (rest ++ more) fields last behind (subst (λ (bs : List ℕ). ReadsSection bs fields last behind)
     (append_assoc text rest more) reads)
 
--- the bytes behind a place lack something, and reach the limit
+-- the bytes from an offset on lack something, and reach the limit
 pub passes : (Lacks : List ℕ → Type 0) (place : ℕ) (kept rest : List ℕ) → place ≤ length kept → 1048576 ≤ length kept
     → Lacks (drop place kept)
     → PassesLimit Lacks place (drop place (kept ++ rest))
@@ -103,7 +103,7 @@ one_differs a b e = by (a == 13) refl
     by true f = inr (λ g. grind (arith, nat_tests))
     by false f = inl (λ g. grind (arith, nat_tests))
 
--- what the test of a line's end says
+-- what the test of a line's end means
 pub found_line_end : (bytes kept : List ℕ) (n : ℕ) (found : Bool) → bytes ≡ kept → found ≡ has_line_end bytes n → found
     ≡ true → n + 2 ≤ length kept → drop n kept ≡ crlf_bytes ++ drop (n + 2) kept
 found_line_end bytes kept n found same is yes_it_is h =
@@ -130,7 +130,7 @@ content_there from to size kept is within ends = (
   omega (arith, length-take (to - from) (drop from kept), length-drop from kept),
 )
 
--- what may be open behind a line of that size
+-- what may be unfinished after a line of that size
 abbrev pub IsOpenBehind : ℕ → List ℕ → Type 0
 IsOpenBehind size behind = ((size ≡ 0) × HasNoSection behind) ⊎ ((0 < size) × (length behind < size + 2))
 

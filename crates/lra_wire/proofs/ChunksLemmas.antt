@@ -40,7 +40,7 @@ end_found bytes start len within at bound = record {
   there = λ more. trailer_there start bytes more len within at;
 }
 
--- it ends behind the limit
+-- the trailer ends after the limit
 pub end_long : (bytes : List ℕ) (start len : ℕ) → start ≤ length bytes → IsTrailerOf (drop start bytes) len → 1048576
     < start + len → LastsAt (RefusesTrailer start) start bytes TooLarge
 end_long bytes start len within at long = λ more.
@@ -91,7 +91,7 @@ end_refused bytes start within over = λ more.
 
 -- ---- the content of a chunk
 
--- no CRLF stands behind it
+-- no CRLF follows the content
 pub content_refused : (bytes : List ℕ) (start room size : ℕ) → start ≤ length bytes → start + size + 2 ≤ length bytes
     → (get_or bytes (start + size) 0 ≢ 13) ⊎ (get_or bytes (start + size + 1) 0 ≢ 10)
     → LastsAt (RefusesContent start room size) start bytes BadLength
@@ -146,7 +146,7 @@ line_refused_now bytes start room within never = λ more.
           (NeverHasChunkLine-append (drop start bytes) more never),
     ))
 
--- behind a line of size 0
+-- after a line of size 0
 pub last_found : (bytes : List ℕ) (start end : ℕ) (found : ℕ × ℕ) → start ≤ length bytes
     → IsLineOf (drop start bytes) found → found.1 ≡ 0 → IsTrailerTo (start + found.0) end bytes
     → (start ≤ end) × (end ≤ length bytes) × (end ≤ 1048576) × ((more : List ℕ)
@@ -164,7 +164,7 @@ last_found bytes start end found within at zero trailer = (
   },
 )
 
--- a line stands there, and the stream ends behind it
+-- a line stands there, and the stream ends after it
 cut_behind : (bytes : List ℕ) (start room : ℕ) (found : ℕ × ℕ) → (at : IsLineOf (drop start bytes) found)
     → (((found.1 ≡ 0) × RefusesTrailer (start + found.0) (drop (start + found.0) bytes) Cut)
     ⊎ ((0 < found.1) × RefusesContent (start + found.0) room found.1 (drop (start + found.0) bytes) Cut))
@@ -224,7 +224,7 @@ last_refused bytes start room found fault within at zero refused =
       );
     })) refused
 
--- behind the line of a chunk
+-- after the line of a chunk
 pub chunk_found : (bytes : List ℕ) (start room from to : ℕ) (found : ℕ × ℕ) → start ≤ length bytes
     → IsLineOf (drop start bytes) found → 0 < found.0 → 0 < found.1
     → (from ≡ start + found.0) × (to ≡ start + found.0 + found.1) × (found.1 ≤ room) × (to + 2 ≤ length bytes)
@@ -291,7 +291,7 @@ chunk_refused bytes start room found fault within at some refused =
       );
     })) refused
 
--- what stands behind the line
+-- what follows the line
 pub part_last : (bytes : List ℕ) (start room : ℕ) (found : ℕ × ℕ) (result : Result Part WireFault) → start
     ≤ length bytes → IsLineOf (drop start bytes) found → found.1 ≡ 0
     → FindsEnd (start + found.0) bytes result → FindsPart start room bytes result

@@ -455,7 +455,7 @@ open_seeks bytes (Bytes count) o = record {
       λ more missing. o.awaits more missing;
 }
 
--- it hasn't come
+-- the wanted line feed hasn't come
 pub still_feed : (bytes : List ℕ) (looked : ℕ) → Seeks (Feed looked) bytes → length bytes < 1048576
     → list_any (λ b. b == 10) (slice_range bytes looked (length bytes)) ≡ false
     → IsOpenAt AwaitsResponse 0 bytes (Feed (length bytes))
@@ -468,7 +468,7 @@ still_feed bytes looked s few none = record {
       ∙ ap (λ t. t || list_any (λ b. b == 10) more) (no_feed bytes looked none) ∙ feed_none bytes more missing);
 }
 
--- it came
+-- the wanted line feed came
 pub came_feed : (bytes : List ℕ) (looked : ℕ) → list_any (λ b. b == 10) (slice_range bytes looked (length bytes)) ≡ true
     → ¬ (list_any (λ b. b == 10) (drop looked bytes) ≡ false)
 came_feed bytes looked came missing =
@@ -489,7 +489,7 @@ seen_final seen bytes found head s is finds =
     let same : seen.head ≡ Some head = subst (λ (o : Option Head). FindsHead seen.head bytes (Ok o)) is finds in
     subst (λ (o : Option Head). SeesBody o seen.chunks bytes) same s.body
 
--- it holds of more bytes
+-- a final head stays in more bytes
 final_on : (bytes more : List ℕ) (found : Head) → IsFinalOf bytes found → IsFinalOf (bytes ++ more) found
 final_on bytes more found final = record {
   head = final.head;
@@ -527,7 +527,7 @@ sees_more seen bytes more s = record {
   };
 }
 
--- a new one says nothing of them
+-- new findings mean nothing for the bytes
 pub sees_nothing : (bytes : List ℕ) → Seeks (Bytes 0) bytes
 sees_nothing bytes = record { looked = tt; bound = omega arith; awaits = λ more few. absurd (omega (arith, few)) }
 

@@ -71,7 +71,7 @@ digit_at zero (b ∷ bytes) h l = (and_true (is_ascii_digit b) (list_all is_asci
 digit_at (suc i) (b ∷ bytes) h l = digit_at i bytes (and_true (is_ascii_digit b) (list_all is_ascii_digit bytes) h).1
     (omega arith)
 
--- a digit's byte, and what it stands for
+-- a digit's byte, and the value of the digit
 pub digit_byte : (i : ℕ) (bytes : List ℕ) → list_all is_ascii_digit bytes ≡ true → i < length bytes
     → (48 ≤ get_or bytes i 0) × (get_or bytes i 0 < 58) × (digit_value (get_or bytes i 0) ≡ get_or bytes i 0 - 48)
 digit_byte i bytes h l = go (get_or bytes i 0) (digit_at i bytes h l)

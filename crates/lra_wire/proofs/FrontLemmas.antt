@@ -1,4 +1,4 @@
--- The request at the front of bytes that came.
+-- The request that the bytes which came begin with.
 use Rattle.std.proofs.Common.{◌≡◌, ◌≢◌, ℕ, ◌+◌, ◌<◌, ◌≤◌, Bool, true, false, cond, ◌==◌, List, [], ◌∷◌, ◌++◌, length}
 use Rattle.std.proofs.Common.{map, take, drop, refl, sym, ap, subst, ◌∙◌, arith, append_assoc, Result, Ok, Err, inl}
 use Rattle.std.proofs.Common.{inr, ◌⊎◌}
@@ -50,7 +50,7 @@ request_front bytes headers spans size request at stated whole parts body =
 pub head_refuses : (bytes : List ℕ) (fault : WireFault) → fault ≡ BadHead → NeverLawful bytes → RefusesFront bytes fault
 head_refuses bytes fault bad never = subst (RefusesFront bytes) (sym bad) never
 
--- a lawful head, and the length of its body is refused
+-- a valid head, and the length of its body is refused
 pub size_refuses : (bytes : List ℕ) (headers : List HeaderSpan) (spans : RequestSpans) (fault : WireFault)
     → IsHeadAt bytes headers spans
     → body_length_of (map (header_bytes bytes) (take spans.headers headers)) ≡ Err fault → RefusesFront bytes fault
@@ -126,7 +126,7 @@ body_unfinished bytes wanted l = (inr (inr (ends_in_body bytes wanted l.few l.bo
 pub sees_nothing : (bytes : List ℕ) → Sees (record { looked = 0; wanted = 0 }) bytes
 sees_nothing bytes = record { within = omega arith; head = λ z. no_request_yet; body = λ p. absurd (omega (arith, p)) }
 
--- it holds of more bytes
+-- the findings hold of more bytes
 pub sees_more : (seen : Seen) (bytes more : List ℕ) → Sees seen bytes → Sees seen (bytes ++ more)
 sees_more seen bytes more s = record {
   within = omega (arith, s.within, length-append bytes more);
@@ -152,7 +152,7 @@ seen_body seen bytes s some few =
           λ z. absurd (omega (arith, z, some));
     }
 
--- a head behind which no line feed came
+-- a head after which no line feed came
 pub seen_head : (seen : Seen) (bytes : List ℕ) → Sees seen bytes → seen.wanted ≡ 0 → length bytes < 8192
     → list_any (λ b. b == 10) (slice_range bytes seen.looked (length bytes)) ≡ false
     → StaysOpen seen.wanted bytes
@@ -160,7 +160,7 @@ seen_head seen bytes s none few feed =
     let open_head = no_request bytes seen.looked s.within (s.head none) feed in
     record { awaits = inl open_head; bound = omega (arith, few); head = λ z. open_head }
 
--- all was looked at
+-- all bytes were read
 pub sees_all : (seen : Seen) (bytes : List ℕ) → Sees seen bytes → StaysOpen seen.wanted bytes
     → Sees (record seen { looked = length bytes }) bytes
 sees_all seen bytes s o = record {
@@ -234,7 +234,7 @@ refused_more bytes more Memory h = tt
 refused_more bytes more Cut h = absurd h
 refused_more bytes more Io h = absurd h
 
--- a request takes some of the bytes
+-- a request has at least one byte
 pub request_takes : (bytes : List ℕ) (request : Request) (rest : List ℕ) → IsRequest bytes request rest → length rest
     < length bytes
 unfolding print_request
@@ -244,14 +244,14 @@ request_takes bytes request rest r = omega (
   simp length-append at (ap length r.found.reads.1),
 )
 
--- no request stands where more is wanted
+-- the bytes begin with no request where more is wanted
 pub unfinished_none : (bytes : List ℕ) (request : Request) (rest : List ℕ) → IsUnfinished bytes
     → ¬ (IsRequest bytes request rest)
 unfinished_none bytes request rest (inl none) r = some_bytes r.head (request.body ++ rest) r.found.reads.0
     (sym r.found.reads.1 ∙ none)
 unfinished_none bytes request rest (inr cut) r = exclusive bytes request rest Cut (λ h. h) r cut
 
--- nor where there is a fault of the bytes
+-- the bytes begin with no request where they have a fault
 pub faulty_none : (bytes : List ℕ) (fault : WireFault) (request : Request) (rest : List ℕ) → fault ≢ Memory
     → RefusesFront bytes fault → ¬ (IsRequest bytes request rest)
 faulty_none bytes BadHead request rest n h r = exclusive bytes request rest BadHead (λ h. h) r h

@@ -34,7 +34,7 @@ pub record Waits {R : Type 0} (remaining : R → Option (List ℕ)) (Awaits : Li
     pub grows : Grows remaining old new
     pub asks : AsksAt Awaits old new
 
--- what was read first, and then what was read behind it
+-- what was read first, and what was read after it
 pub asks_on : {R : Type 0} (P Q S : List ℕ → Type 0) (a b c : Inbox R) → AsksAt P a b → AsksAt Q b c
     → ((bytes : List ℕ) → P bytes → S bytes) → ((bytes : List ℕ) → Q bytes → S bytes)
     → AsksAt S a c

@@ -1,4 +1,4 @@
--- What is open stays so until a line feed comes, and what is refused stays so.
+-- What isn't whole stays so until a line feed comes, and what is refused stays refused.
 use Rattle.std.proofs.Common.{◌≡◌, ℕ, ◌+◌, ◌<◌, ◌≤◌, false, List, [], ◌∷◌, ◌++◌, length, drop, refl, sym, subst, ◌∙◌}
 use Rattle.std.proofs.Common.{arith}
 use Rattle.std.specs.Prelude.{◌==◌, slice_range}
@@ -21,7 +21,7 @@ pub none_more : (bytes more : List ℕ) → length (bytes ++ more) < length byte
 none_more bytes [] few = refl
 none_more bytes (b ∷ more) few = absurd (omega (arith, few, length-append bytes (b ∷ more)))
 
--- no line feed came behind what was there
+-- no line feed came after what was there
 pub feed_none : (bytes more : List ℕ) → list_any (λ b. b == 10) (drop (length bytes) (bytes ++ more)) ≡ false
     → list_any (λ b. b == 10) more ≡ false
 feed_none bytes more none = subst (λ (bs : List ℕ). list_any (λ b. b == 10) bs ≡ false) (drop-append_seam bytes more)
@@ -34,7 +34,7 @@ new_feed text more none =
     (sym (behind_in {bytes = text ++ more} {kept = text ++ more} (length text) refl ∙ drop-append_seam text more))
     none
 
--- what is open stays so until one comes: a head, a chunk line, a trailer
+-- what isn't whole stays so until a line feed comes: a head, a chunk line, a trailer
 pub response_stays : (text more : List ℕ) → IsOpenResponse text → list_any (λ b. b == 10) more ≡ false
     → IsOpenResponse (text ++ more)
 response_stays text more here none =
@@ -53,7 +53,7 @@ section_stays text more here none =
     no_section (text ++ more) (length text) (omega (arith, length-append text more))
     (subst HasNoSection (sym (take_at text more (length text) refl)) here) (new_feed text more none)
 
--- such a text is open at the end of the bytes
+-- such a text isn't whole at the end of the bytes
 pub open_now : (Awaits : List ℕ → Type 0) → ((text more : List ℕ) → Awaits text → list_any (λ b. b == 10) more ≡ false
     → Awaits (text ++ more)) → (start : ℕ) (bytes : List ℕ)
     → start ≤ length bytes → Awaits (drop start bytes) → length bytes < 1048576

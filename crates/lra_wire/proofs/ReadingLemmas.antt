@@ -22,7 +22,7 @@ ok_is_no_err e = cc
 same_err : {a b : WireFault} → ◌≡◌ {A = Result ℕ WireFault} (Err a) (Err b) → a ≡ b
 same_err e = cc
 
--- a part of the list, and what is behind it
+-- a part of the list, and what follows it
 part_of : (bytes : List ℕ) (a n : ℕ) → drop a bytes ≡ slice_range bytes a (a + n) ++ drop (a + n) bytes
 part_of bytes a n =
     let same : a + n - a ≡ n = omega arith in
@@ -68,7 +68,7 @@ request_there bytes more rest headers spans size request at stated whole parts b
       fields = ap (λ (r : Request). r.fields) parts ∙ ap told_by at.places.fields;
     }
 
--- a lawful head stands there, and not all of the body behind it
+-- the bytes begin with a valid head, and not all of the body after it
 pub lacks_body : (bytes more : List ℕ) (headers : List HeaderSpan) (spans : RequestSpans) (size : ℕ)
     → IsHeadAt bytes headers spans
     → body_length_of (map (header_bytes bytes) (take spans.headers headers)) ≡ Ok size → length (bytes ++ more)
@@ -96,7 +96,7 @@ lacks_body bytes more headers spans size at stated few =
       );
     }
 
--- a lawful head stands there, and the length of its body is refused
+-- the bytes begin with a valid head, and the length of its body is refused
 pub length_fault : (fields : List (List ℕ × List ℕ)) (fault : WireFault) → body_length_of fields ≡ Err fault
     → (fault ≡ Chunked) ⊎ ((fault ≡ BadLength) ⊎ (fault ≡ TooLarge))
 length_fault fields fault e = go (is_coded fields) (stated_of fields) e

@@ -1,4 +1,4 @@
--- Why no continuation makes a lawful head.
+-- Why no continuation makes a head valid.
 use Rattle.std.proofs.Common.{◌≡◌, ℕ, ◌<◌, ◌≤◌, true, false, ◌||◌, ◌==◌, List, ◌++◌, length, map, take, drop, refl, sym}
 use Rattle.std.proofs.Common.{ap, subst, ◌∙◌, arith}
 use Rattle.std.specs.Prelude.{codes}
@@ -17,14 +17,14 @@ use Rattle.lra_wire.specs.Fields.{values_of}
 use Rattle.lra_wire.specs.inner.Heads.{has_host}
 use Rattle.lra_wire.specs.Request.{IsLawful, NeverLawful, fields_of}
 
--- a head stands there that isn't lawful
+-- the bytes begin with a head that isn't valid
 pub never_after_head : (bytes : List ℕ) (head : RequestHead) (rest : List ℕ) → ReadsRequest bytes head rest
     → ¬ (IsLawful head) → NeverLawful bytes
 never_after_head bytes head rest reads bad more other tail found =
     let same = request_prefix_free bytes more head other rest tail reads found.reads in
     bad (subst IsLawful (sym same.0) found.lawful)
 
--- a front that is long enough for a lawful head has none
+-- a prefix that is long enough for a valid head has none
 pub never_after_front : (bytes : List ℕ) → HasNoRequest bytes → 8192 ≤ length bytes → NeverLawful bytes
 never_after_front bytes none long more head rest found =
     let n = length (print_request head) in

@@ -17,7 +17,7 @@ use Rattle.lra_wire.specs.Request.{Request, IsLawful, HasHead, IsRequest, Refuse
 use Rattle.lra_wire.specs.Request.{told_by, closes}
 use Rattle.lra_wire.specs.Requests.{Requests, IsHeadFault, EndsAlike}
 
--- what is refused behind a lawful head
+-- what is refused after a valid head
 pub record Behind (bytes : List ℕ) (fault : WireFault) : Type 0 where
   pub head : RequestHead
   pub rest : List ℕ
@@ -25,7 +25,7 @@ pub record Behind (bytes : List ℕ) (fault : WireFault) : Type 0 where
   pub refused : (body_length_of (fields_of head) ≡ Err fault) ⊎ ((fault ≡ Cut) × (size : ℕ)
       × (body_length_of (fields_of head) ≡ Ok size) × (length rest < size))
 
--- a fault is the head's, and there is no lawful one, or it is behind a lawful head
+-- a fault is the head's, and there is no valid head, or it is one after a valid head
 classes : (bytes : List ℕ) (fault : WireFault) → ¬ (IsOutside fault) → RefusesRequest bytes fault
     → (IsHeadFault fault × ((head : RequestHead) (rest : List ℕ) → ¬ (HasHead bytes head rest))) ⊎ Behind bytes fault
 classes bytes BadHead inside never = inl (
@@ -107,18 +107,18 @@ same_request bytes a b r q x y =
       rest,
     )
 
--- a head has a method at least
+-- a head has at least a method
 pub some_bytes : (head : RequestHead) (rest : List ℕ) → IsRequestHead head → print_request head ++ rest ≢ []
 unfolding print_request
 some_bytes head rest is e = omega (arith, is.method.0, simp length-append at (ap length e))
 
--- where more of a request is asked for, none has come
+-- where more of a request is asked for, no whole request has come
 pub awaits_none : (bytes : List ℕ) (request : Request) (rest : List ℕ) → AwaitsRequest bytes
     → ¬ (IsRequest bytes request rest)
 awaits_none bytes request rest (inl open_head) is = open_head.0 is.head (request.body ++ rest) is.found.reads
 awaits_none bytes request rest (inr ends) is = exclusive bytes request rest Cut (λ h. h) is (inr ends)
 
--- a short head that is lawful
+-- a short head that is valid
 pub example : RequestHead
 example = record {
   blank = [];

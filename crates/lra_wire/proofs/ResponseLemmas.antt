@@ -23,14 +23,14 @@ use Rattle.lra_wire.proofs.StreamLemmas.{drop_more_bytes}
 
 -- ---- heads
 
--- a head stands there that is past the limits
+-- the bytes begin with a head that exceeds the limits
 pub never_after_response : (bytes : List ℕ) (head : ResponseHead) (rest : List ℕ) → ReadsResponse bytes head rest
     → ¬ (IsShort head) → NeverShort bytes
 never_after_response bytes head rest reads bad more other tail found =
     let same = response_prefix_free bytes more head other rest tail reads found.reads in
     bad (subst IsShort (sym same.0) found.short)
 
--- a front that is long enough for a head within the limits has none
+-- a prefix that is long enough for a head within the limits has none
 pub never_after_open : (bytes : List ℕ) → HasNoResponse bytes → 8192 ≤ length bytes → NeverShort bytes
 never_after_open bytes none long more head rest found =
     let n = length (print_response head) in
@@ -91,7 +91,7 @@ framing_small code fields framing e = go ((code == 204) || (code == 304)) (value
     go false (coding ∷ []) s same = coded (is_alike coding (codes "chunked")) same
     go false (coding ∷ other ∷ codings) s same = absurd cc
 
--- ---- behind the final head
+-- ---- after the final head
 
 -- the faults of a framing are among those of a body
 pub rest_says : (stream : List ℕ) (fault : WireFault) → fault ≢ BadHead → RefusesRest stream fault

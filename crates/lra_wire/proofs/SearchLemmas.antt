@@ -31,7 +31,8 @@ any_feed : (front rest : List ℕ) → list_any (λ b. b == 10) (front ++ 10 ∷
 any_feed [] rest = refl
 any_feed (b ∷ front) rest = grind (arith, any_feed front rest)
 
--- a text that ends in a line feed and begins the bytes, of which none comes behind a place, stands before it
+-- the bytes begin with a text that ends in a line feed, and have no line feed from an offset on: the text ends before
+-- that offset
 pub ends_before : (bytes text rest : List ℕ) (n : ℕ) → EndsLine text → n ≤ length bytes → bytes ≡ text ++ rest
     → list_any (λ b. b == 10) (drop n bytes) ≡ false
     → (left : List ℕ) × (take n bytes ≡ text ++ left)
@@ -60,7 +61,7 @@ ends_before bytes text rest n (front, ends) within is none = (
     same = sym (take-append-le m (take n bytes) (drop n bytes) before) ∙ ap (take m) (take-append-drop n bytes ∙ is)
         ∙ take_at text rest m refl
 
--- none comes in what is new
+-- no line feed comes in the new bytes
 pub no_feed : (bytes : List ℕ) (n : ℕ) → list_any (λ b. b == 10) (slice_range bytes n (length bytes)) ≡ false
     → list_any (λ b. b == 10) (drop n bytes) ≡ false
 no_feed bytes n none = subst (λ (bs : List ℕ). list_any (λ b. b == 10) bs ≡ false) (behind_in n refl) none

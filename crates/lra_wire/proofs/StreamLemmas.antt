@@ -31,7 +31,7 @@ on_stream_end {R} {remaining} {old} {new} grows P end h =
     (λ rest known. let none : rest ≡ [] = subst IsAtEnd known end in
     subst P (sym (append-nil (kept_bytes new)) ∙ ap (λ r. kept_bytes new ++ r) (sym none)) h)
 
--- the bytes behind a place of what was kept, and more
+-- the kept bytes from an offset on, and more
 pub drop_more_bytes : (n : ℕ) (kept rest : List ℕ) → n ≤ length kept → drop n kept ++ rest ≡ drop n (kept ++ rest)
 drop_more_bytes n kept rest h = sym (drop-append-le n kept rest h)
 
@@ -45,7 +45,7 @@ pub prepend_none : (kept : List ℕ) (left : Option (List ℕ)) → kept ≡ [] 
 prepend_none kept None e = refl
 prepend_none kept (Some xs) e = ap (λ bs. Some (bs ++ xs)) e
 
--- the bytes from a place on
+-- the bytes from an offset on
 pub behind_in : {bytes kept : List ℕ} (n : ℕ) → bytes ≡ kept → slice_range bytes n (length bytes) ≡ drop n kept
 behind_in {bytes} {kept} n same = take_all (length bytes - n) (drop n bytes) (omega (arith, length-drop n bytes))
     ∙ ap (drop n) same

@@ -22,7 +22,7 @@ use Rattle.lra_wire.proofs.StreamLemmas.{on_stream, on_stream_end, known}
 
 -- ---- streams
 
--- a relation of the stream that was, and the one that is left behind the first bytes
+-- a relation of the stream before, and the stream that is left after the first bytes
 both_known : (old : Option (List ℕ)) (kept : List ℕ) (left : Option (List ℕ)) (n : ℕ) (P : List ℕ → List ℕ → Type 0)
     → Keeps old (prepend_known kept left) → ((rest : List ℕ) → P (kept ++ rest) (drop n kept ++ rest))
     → IfBothKnown old (prepend_known (drop n kept) left) P
@@ -56,7 +56,7 @@ taken {R} remaining old mid new n P grows h kept reader =
     (λ r. prepend_known (kept_bytes new) (remaining r)) (sym reader))
     (both_known (stream_of remaining old) (kept_bytes mid) (remaining mid.reader) n P grows.stream h)
 
--- the first of all the bytes were
+-- the first of all the bytes of the stream were a message's
 pub taken_at_end : {R : Type 0} (remaining : R → Option (List ℕ)) (old mid new : Inbox R) (n : ℕ)
     (P : List ℕ → List ℕ → Type 0) → Grows remaining old mid
     → IsAtEnd (remaining mid.reader) → P (kept_bytes mid) (drop n (kept_bytes mid)) → kept_bytes new
@@ -70,7 +70,7 @@ taken_at_end {R} remaining old mid new n P grows end h kept reader =
 
 -- ---- requests
 
--- a failing reader, or want of memory
+-- a fault of the reader or of memory
 pub request_outside : (stream : Option (List ℕ)) (fault : WireFault) → IsOutside fault
     → IfSome stream (λ bytes. RefusesRequest bytes fault)
 request_outside stream Io h = known stream (λ bytes. RefusesRequest bytes Io) (λ bytes. tt)
@@ -81,7 +81,7 @@ request_outside stream BadLength h = absurd h
 request_outside stream TooLarge h = absurd h
 request_outside stream Cut h = absurd h
 
--- a fault of a front is one of the stream
+-- a fault of a prefix is one of the stream
 pub front_says : (bytes : List ℕ) (fault : WireFault) → RefusesFront bytes fault → RefusesRequest bytes fault
 front_says bytes BadHead h = h
 front_says bytes Chunked h = h
@@ -121,7 +121,7 @@ pub requests_end : {R : Type 0} (remaining : R → Option (List ℕ)) (old new :
 requests_end remaining old new grows end none = taken_at_end remaining old new new 0 (GivesRequest None) grows end
     (none, none) refl refl
 
--- it ends in a request
+-- the stream ends in a request
 pub request_cut : {R : Type 0} (remaining : R → Option (List ℕ)) (old new : Inbox R) (fault : WireFault)
     → Grows remaining old new → IsAtEnd (remaining new.reader) → EndsAt (kept_bytes new) (Err fault)
     → IfSome (stream_of remaining old) (λ bytes. RefusesRequest bytes fault)
@@ -130,7 +130,7 @@ request_cut remaining old new fault grows end refused = on_stream_end grows (λ 
 
 -- ---- responses
 
--- a failing reader, or want of memory
+-- a fault of the reader or of memory
 pub response_outside : (stream : Option (List ℕ)) (fault : WireFault) → IsOutside fault
     → IfSome stream (λ bytes. RefusesResponse bytes fault)
 response_outside stream Io h = known stream (λ bytes. RefusesResponse bytes Io) (λ bytes. tt)
@@ -158,7 +158,7 @@ pub response_refused : {R : Type 0} (remaining : R → Option (List ℕ)) (old m
 response_refused remaining old mid fault grows refused = on_stream grows (λ bytes. RefusesResponse bytes fault)
     (λ rest. lasts_says (kept_bytes mid) rest fault refused)
 
--- the same of bytes that may be all
+-- the same for bytes that may be all of the stream
 pub lasts_now : (bytes : List ℕ) (fault : WireFault) → Lasts RefusesResponse bytes fault → RefusesResponse bytes fault
 lasts_now bytes fault h = subst (λ (bs : List ℕ). RefusesResponse bs fault) (append-nil bytes)
     (lasts_says bytes [] fault h)

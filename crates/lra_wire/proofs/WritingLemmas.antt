@@ -1,4 +1,4 @@
--- What goes out in several writes.
+-- What several writes write.
 use Rattle.std.proofs.Common.{◌≡◌, ℕ, ◌<◌, List, [], ◌++◌, length, take, drop, refl, sym, ap, ◌∙◌, arith, append_assoc}
 use Rattle.std.proofs.Common.{Option, Some, None}
 use Rattle.std.specs.Io.KnownBytes.{Appends, Keeps}
@@ -18,7 +18,7 @@ Appends_more (Some ws) None c xs ys x y = absurd x
 Appends_more (Some ws) (Some bs) None xs ys x y = absurd y
 Appends_more (Some ws) (Some bs) (Some cs) xs ys x y = y ∙ ap (λ zs. zs ++ ys) x ∙ append_assoc ws xs ys
 
--- a message has its line ends at least
+-- a message has at least its line ends
 pub message_long : (line : List ℕ) (fields : List (Bor (List ℕ) × Bor (List ℕ))) (body : List ℕ) → 0
     < length (message_text line fields body)
 message_long line fields body =
@@ -29,7 +29,7 @@ message_long line fields body =
       length-append (line ++ crlf_bytes ++ after) crlf_bytes,
     )
 
--- nothing went out of a text that isn't empty
+-- nothing of a text that isn't empty was written
 pub nothing_sent : (known : Option (List ℕ)) (text : List ℕ) → 0 < length text → AppendsFront known known text
 nothing_sent known text long = ([], text, refl, long, Appends_nil known)
 

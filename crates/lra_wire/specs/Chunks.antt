@@ -24,11 +24,11 @@ pub record IsChunk (chunk : Chunk) : Type 0 where
   pub size : chunk_size chunk.line ≡ length chunk.content
   pub some : 0 < length chunk.content
 
--- the bytes of the body in the chunks
+-- the bytes of the body that the chunks make up
 abbrev pub content_of : List Chunk → List ℕ
 content_of chunks = flat_map (λ chunk. chunk.content) chunks
 
--- the bytes begin with these chunks, of which the body is within its limit
+-- the bytes begin with these chunks, whose body is within its limit
 pub record HasChunks (bytes : List ℕ) (chunks : List Chunk) (rest : List ℕ) : Type 0 where
   pub each : All IsChunk chunks
   pub front : bytes ≡ flat_map print_chunk chunks ++ rest
@@ -57,8 +57,8 @@ pub record IsChunked (bytes body rest : List ℕ) : Type 0 where
   pub ends : HasLast last rest
   pub joined : body ≡ content_of chunks
 
--- A front of the text lacks something, and goes on to the 2^20th byte of the response, where the text stands at that
--- place of it.
+-- A prefix of the text lacks something, and reaches the 2^20th byte of the response. The text begins at that offset of
+-- the response.
 pub record PassesLimit (Lacks : List ℕ → Type 0) (place : ℕ) (text : List ℕ) : Type 0 where
   pub front : List ℕ
   pub back : List ℕ
@@ -66,7 +66,7 @@ pub record PassesLimit (Lacks : List ℕ → Type 0) (place : ℕ) (text : List 
   pub none : Lacks front
   pub long : 1048576 ≤ place + length front
 
--- why no chunk line is read at a place of the response
+-- why no chunk line is read at an offset of the response
 abbrev pub RefusesLine : ℕ → List ℕ → WireFault → Type 0
 RefusesLine place text fault =
     ((fault ≡ BadLength) × NeverHasChunkLine text)
@@ -81,7 +81,7 @@ RefusesTrailer place text fault =
     ⊎ (((fault ≡ TooLarge) × (rest : List ℕ) × HasTrailer text rest × (1048576 + length rest < place + length text))
     ⊎ ((fault ≡ Cut) × HasNoSection text × MayBecomeSection text)))
 
--- so many bytes stand there, and behind them no CRLF, whatever follows
+-- so many bytes stand there, and no CRLF after them, whatever follows
 pub record LacksLineEnd (size : ℕ) (text : List ℕ) : Type 0 where
   pub content : List ℕ
   pub behind : List ℕ
@@ -96,7 +96,7 @@ RefusesContent place room size text fault =
     ⊎ (((fault ≡ TooLarge) × ((room < size) ⊎ (1048576 < place + size + 2)))
     ⊎ ((fault ≡ Cut) × (length text < size + 2)))
 
--- a chunk line stands there, and what is behind it is refused
+-- a chunk line stands there, and what follows it is refused
 pub record RefusesBehind (place room : ℕ) (text : List ℕ) (fault : WireFault) : Type 0 where
   pub line : ChunkLine
   pub behind : List ℕ
@@ -109,20 +109,20 @@ pub record RefusesBehind (place room : ℕ) (text : List ℕ) (fault : WireFault
 abbrev pub RefusesChunk : ℕ → ℕ → List ℕ → WireFault → Type 0
 RefusesChunk place room text fault = RefusesLine place text fault ⊎ RefusesBehind place room text fault
 
--- Why the bytes behind a head are no chunked body, where the head ends at that place of the response.
+-- Why the bytes after a head are no chunked body, where the head ends at that offset of the response.
 pub record RefusesChunks (place : ℕ) (bytes : List ℕ) (fault : WireFault) : Type 0 where
   pub chunks : List Chunk
   pub text : List ℕ
   pub has : HasChunks bytes chunks text
   pub refused : RefusesChunk (place + (length bytes - length text)) (65536 - length (content_of chunks)) text fault
 
--- a chunk isn't whole there, nor is the end of the body: a line is open, or the content behind one, or the trailer
+-- neither a chunk nor the end of the body is whole there: a line isn't, or the content after one, or the trailer
 abbrev pub AwaitsChunk : List ℕ → Type 0
 AwaitsChunk text = HasNoChunkLine text
     ⊎ ((line : ChunkLine) × (behind : List ℕ) × ReadsChunkLine text line behind
     × (((chunk_size line ≡ 0) × HasNoSection behind) ⊎ ((0 < chunk_size line) × (length behind < chunk_size line + 2))))
 
--- the bytes begin with chunks, and what stands behind them isn't whole
+-- the bytes begin with chunks, and what follows them isn't whole
 pub record AwaitsChunks (bytes : List ℕ) : Type 0 where
   pub chunks : List Chunk
   pub text : List ℕ

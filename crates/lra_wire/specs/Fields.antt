@@ -33,18 +33,18 @@ abbrev pub spelled_length : List ℕ → Stated
 spelled_length value = if nat_lt 0 (length value) && nat_le (length value) 19
     && list_all is_ascii_digit value then Length (digits_value 10 value) else Malformed
 
--- what the values of Content-Length say: one number, and not the same one twice
+-- the length that the values of Content-Length state: there may be one value, and not even the same one twice
 abbrev pub stated_by : List (List ℕ) → Stated
 stated_by [] = Nothing
 stated_by (value ∷ []) = spelled_length value
 stated_by (value ∷ other ∷ values) = Malformed
 
--- what a head says of its body's length
+-- the length of the body that a head states
 abbrev pub stated_of : List (List ℕ × List ℕ) → Stated
 stated_of fields = stated_by (values_of (codes "content-length") fields)
 
--- A coding or an expectation, which isn't served (this project's choice; RFC 9110, sections 8.4 and 10.1.1, and RFC
--- 9112, section 6.1).
+-- A head has a coding or an expectation, which isn't supported (this project's choice; RFC 9110, sections 8.4 and
+-- 10.1.1, and RFC 9112, section 6.1).
 abbrev pub is_coded : List (List ℕ × List ℕ) → Bool
 is_coded fields = has_field (codes "transfer-encoding") fields || has_field (codes "content-encoding") fields
     || has_field (codes "expect") fields

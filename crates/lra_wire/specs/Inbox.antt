@@ -13,7 +13,7 @@ kept_bytes inbox = drop inbox.taken inbox.kept.items
 abbrev pub stream_of : {R : Type 0} → (R → Option (List ℕ)) → Inbox R → Option (List ℕ)
 stream_of remaining inbox = prepend_known (kept_bytes inbox) (remaining inbox.reader)
 
--- a call answered a fault, and each further one answers `Cut`
+-- a call returned a fault, and each further one returns `Cut`
 abbrev pub is_spent : {R : Type 0} → Inbox R → Bool
 is_spent inbox = inbox.spent
 
@@ -31,7 +31,7 @@ IsOutside Cut = ⊥
 abbrev pub asked_at : {R : Type 0} → Inbox R → List ℕ
 asked_at inbox = inbox.asked.value.items
 
--- The reader wasn't asked, or last of all where such bytes had come. Within a call bytes are only added, so that there
--- were no more of them at any earlier time.
+-- The reader wasn't asked for more, or such bytes had come when it was last asked. Within a call bytes are only added,
+-- so that there never were more of them earlier in the call.
 abbrev pub AsksAt : {R : Type 0} → (List ℕ → Type 0) → Inbox R → Inbox R → Type 0
 AsksAt Awaits old new = ((new.reader ≡ old.reader) × (asked_at new ≡ asked_at old)) ⊎ Awaits (asked_at new)

@@ -10,21 +10,21 @@ use Rattle.lra_wire.specs.declared.told.RequestFields.{RequestFields}
 use Rattle.lra_wire.specs.Fields.{values_of, body_length_of, lists_close}
 use Rattle.lra_wire.specs.Streams.{UpToLine}
 
--- the value of a field that there is just once
+-- the value of a field that occurs exactly once
 abbrev pub sole : List (List ℕ) → Option (List ℕ)
 sole [] = None
 sole (value ∷ []) = Some value
 sole (value ∷ other ∷ values) = None
 
--- by which it is told who asks, from where and with what: the values of fields that a head has just once (RFC 9110,
--- sections 7.2, 8.3 and 11.6.2; RFC 6454, section 7)
+-- the values of fields that say which client asks, from where, and with what, of each that a head has exactly once (RFC
+-- 9110, sections 7.2, 8.3 and 11.6.2; RFC 6454, section 7)
 pub record Fields : Type 0 where
   pub authorization : Option (List ℕ)
   pub content_type : Option (List ℕ)
   pub host : Option (List ℕ)
   pub origin : Option (List ℕ)
 
--- what these are among the fields of a head
+-- these values among the fields of a head
 abbrev pub told_by : List (List ℕ × List ℕ) → Fields
 told_by fields = record {
   authorization = sole (values_of (codes "authorization") fields);
@@ -33,7 +33,7 @@ told_by fields = record {
   origin = sole (values_of (codes "origin") fields);
 }
 
--- what fields that were read say
+-- the same values, as the code read them
 abbrev pub what_fields : RequestFields → Fields
 what_fields read = record {
   authorization = option_map (λ value. value.items) read.authorization;
@@ -51,7 +51,7 @@ pub record Request : Type 0 where
   pub body : List ℕ
   pub fields : Fields
 
--- what a request that was read says
+-- the request that the code read
 abbrev pub request_of : RequestRead → Request
 request_of read = record {
   method = string_bytes read.method;
@@ -73,11 +73,12 @@ pub record IsLawful (head : RequestHead) : Type 0 where
   pub count : length head.fields ≤ 64
   pub host : head.minor ≡ 1 → length (values_of (codes "host") (fields_of head)) ≡ 1
 
--- The stream is closed after it: its Connection lists `close`, or it is one of HTTP/1.0 (RFC 9112, section 9.3).
+-- The stream is closed after the request: its Connection lists `close`, or it is one of HTTP/1.0 (RFC 9112, section
+-- 9.3).
 abbrev pub closes : RequestHead → Bool
 closes head = head.minor == 0 || lists_close (fields_of head)
 
--- the bytes begin with a lawful head, and these follow it
+-- the bytes begin with a valid head, and these bytes follow it
 pub record HasHead (bytes : List ℕ) (head : RequestHead) (rest : List ℕ) : Type 0 where
   pub reads : ReadsRequest bytes head rest
   pub lawful : IsLawful head
@@ -93,24 +94,24 @@ pub record IsRequest (bytes : List ℕ) (request : Request) (rest : List ℕ) : 
   pub close : request.close ≡ closes head
   pub fields : request.fields ≡ told_by (fields_of head)
 
--- no lawful head begins the bytes, whatever follows them
+-- the bytes begin with no valid head, whatever follows them
 abbrev pub NeverLawful : List ℕ → Type 0
 NeverLawful bytes = (more : List ℕ) (head : RequestHead) (rest : List ℕ) → ¬ (HasHead (bytes ++ more) head rest)
 
--- the stream ends inside a head: it has begun, isn't whole, and goes by the grammar so far
+-- the stream ends inside a head: it has begun, isn't whole, and follows the grammar so far
 pub record EndsInHead (bytes : List ℕ) : Type 0 where
   pub begun : bytes ≢ []
   pub open_head : HasNoRequest bytes
   pub lawful : MayBecomeRequest bytes
 
--- a lawful head stands there, and the length of the body is refused with that fault
+-- the bytes begin with a valid head, and the length of the body is refused with that fault
 pub record RefusesBody (bytes : List ℕ) (fault : WireFault) : Type 0 where
   pub head : RequestHead
   pub rest : List ℕ
   pub found : HasHead bytes head rest
   pub refused : body_length_of (fields_of head) ≡ Err fault
 
--- a lawful head stands there, and the stream ends before the body does
+-- the bytes begin with a valid head, and the stream ends before the body does
 pub record EndsInBody (bytes : List ℕ) : Type 0 where
   pub head : RequestHead
   pub rest : List ℕ
@@ -119,8 +120,8 @@ pub record EndsInBody (bytes : List ℕ) : Type 0 where
   pub stated : body_length_of (fields_of head) ≡ Ok size
   pub short : length rest < size
 
--- Why the bytes are no request. Where they end in a head that no continuation makes lawful, two faults may hold. A
--- failing reader and want of memory say nothing of the bytes.
+-- Why the bytes are no request. Where they end in a head that no continuation makes valid, two faults may hold. A fault
+-- of the reader or of memory says nothing of the bytes.
 abbrev pub RefusesRequest : List ℕ → WireFault → Type 0
 RefusesRequest bytes BadHead = NeverLawful bytes
 RefusesRequest bytes Chunked = RefusesBody bytes Chunked
@@ -130,15 +131,15 @@ RefusesRequest bytes Cut = EndsInHead bytes ⊎ EndsInBody bytes
 RefusesRequest bytes Io = ⊤
 RefusesRequest bytes Memory = ⊤
 
--- the bytes are that request and the rest, or there is none since they are at their end
+-- the bytes are that request and the rest, or there are no bytes and no request
 abbrev pub GivesRequest : Option RequestRead → List ℕ → List ℕ → Type 0
 GivesRequest None bytes rest = (bytes ≡ []) × (rest ≡ [])
 GivesRequest (Some read) bytes rest = IsRequest bytes (request_of read) rest
 
--- a head isn't whole, and goes by the grammar so far, at least up to its last line feed
+-- a head isn't whole, and follows the grammar so far, at least up to its last line feed
 abbrev pub IsOpenRequest : List ℕ → Type 0
 IsOpenRequest bytes = HasNoRequest bytes × UpToLine MayBecomeRequest bytes
 
--- A request isn't whole: its head is open, or a lawful head stands there and not all of the body.
+-- A request isn't whole: its head isn't, or the bytes begin with a valid head and not all of the body.
 abbrev pub AwaitsRequest : List ℕ → Type 0
 AwaitsRequest bytes = IsOpenRequest bytes ⊎ EndsInBody bytes

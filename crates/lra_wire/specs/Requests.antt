@@ -5,13 +5,13 @@ use Rattle.lra_wire.specs.declared.fault.WireFault.TheVariants.{BadHead, Chunked
 use Rattle.lra_wire.specs.Inbox.{IsOutside}
 use Rattle.lra_wire.specs.Request.{Request, IsRequest, RefusesRequest}
 
--- The bytes are these requests, and then nothing, or what is refused with that fault.
+-- The bytes are these requests, and then nothing, or bytes that are refused with that fault.
 abbrev pub Requests : List ℕ → List Request → Option WireFault → Type 0
 Requests bytes [] None = bytes ≡ []
 Requests bytes [] (Some fault) = ¬ (IsOutside fault) × RefusesRequest bytes fault
 Requests bytes (request ∷ requests) end = (rest : List ℕ) × IsRequest bytes request rest × Requests rest requests end
 
--- a fault of a head: where a stream ends in one that no continuation makes lawful, both hold
+-- a fault of a head: where a stream ends in a head that no continuation makes valid, both hold
 abbrev pub IsHeadFault : WireFault → Type 0
 IsHeadFault BadHead = ⊤
 IsHeadFault Cut = ⊤
@@ -21,7 +21,7 @@ IsHeadFault TooLarge = ⊥
 IsHeadFault Io = ⊥
 IsHeadFault Memory = ⊥
 
--- two streams of requests end alike
+-- two ends of a stream are equal, or both are faults of a head
 abbrev pub EndsAlike : Option WireFault → Option WireFault → Type 0
 EndsAlike None None = ⊤
 EndsAlike (Some fault) (Some other) = (fault ≡ other) ⊎ (IsHeadFault fault × IsHeadFault other)

@@ -24,12 +24,12 @@ pub record IsShort (head : ResponseHead) : Type 0 where
   pub size : length (print_response head) ≤ 8192
   pub count : length head.fields ≤ 64
 
--- the bytes begin with a head within the limits, and these follow it
+-- the bytes begin with a head within the limits, and these bytes follow it
 pub record HasResponse (bytes : List ℕ) (head : ResponseHead) (rest : List ℕ) : Type 0 where
   pub reads : ReadsResponse bytes head rest
   pub short : IsShort head
 
--- no head within the limits begins the bytes, whatever follows them
+-- the bytes begin with no head within the limits, whatever follows them
 abbrev pub NeverShort : List ℕ → Type 0
 NeverShort bytes = (more : List ℕ) (head : ResponseHead) (rest : List ℕ) → ¬ (HasResponse (bytes ++ more) head rest)
 
@@ -49,7 +49,7 @@ pub record Skips (bytes : List ℕ) (heads : List ResponseHead) (rest : List ℕ
   pub few : length heads ≤ 8
   pub front : bytes ≡ flat_map print_response heads ++ rest
 
--- the bytes begin with interim heads and a final head, and these follow it
+-- the bytes begin with interim heads and a final head, and these bytes follow it
 pub record HasFinal (bytes : List ℕ) (head : ResponseHead) (rest : List ℕ) : Type 0 where
   pub interim : List ResponseHead
   pub behind : List ℕ
@@ -63,7 +63,7 @@ stated_framing Nothing = Ok ToTheEnd
 stated_framing (Length n) = if nat_le n 65536 then Ok (Sized n) else Err TooLarge
 stated_framing Malformed = Err BadLength
 
--- one coding, which is `chunked`, and else what Content-Length says
+-- one transfer coding, which has to be `chunked`, or else what Content-Length says
 abbrev pub coded_framing : List (List ℕ) → Stated → Result Framing WireFault
 coded_framing [] stated = stated_framing stated
 coded_framing (coding ∷ []) stated = if is_alike coding (codes "chunked") then Ok Chunks else Err Chunked
@@ -91,7 +91,7 @@ pub record IsResponse (bytes : List ℕ) (code : ℕ) (body rest : List ℕ) : T
   pub content : IsBody framing behind body rest
   pub size : length bytes ≤ 1048576 + length rest
 
--- why the bytes behind a head are no body of that framing, where the head ends at that place of the response
+-- why the bytes after a head are no body of that framing, where the head ends at that offset of the response
 abbrev pub RefusesFramed : Framing → ℕ → List ℕ → WireFault → Type 0
 RefusesFramed (Sized n) place bytes fault = (fault ≡ Cut) × (length bytes < n)
 RefusesFramed Chunks place bytes fault = RefusesChunks place bytes fault
@@ -106,7 +106,7 @@ pub record RefusesRest (bytes : List ℕ) (fault : WireFault) : Type 0 where
       ⊎ ((framing : Framing) × (framing_of (status_code head) (fields_in head) ≡ Ok framing)
       × RefusesFramed framing (length bytes - length behind) behind fault)
 
--- behind interim heads stands what never becomes a head within the limits, or a ninth interim head
+-- after interim heads come bytes that never become a head within the limits, or a ninth interim head
 pub record RefusesHead (bytes : List ℕ) : Type 0 where
   pub interim : List ResponseHead
   pub rest : List ℕ
@@ -115,7 +115,7 @@ pub record RefusesHead (bytes : List ℕ) : Type 0 where
       ⊎ ((length interim ≡ 8) × (head : ResponseHead) × (behind : List ℕ) × HasResponse rest head behind
       × (is_interim (status_code head) ≡ true))
 
--- the stream ends in a head, which goes by the grammar so far, or before it
+-- the stream ends before a head, or in one that follows the grammar so far
 pub record EndsInResponse (bytes : List ℕ) : Type 0 where
   pub interim : List ResponseHead
   pub rest : List ℕ
@@ -123,8 +123,8 @@ pub record EndsInResponse (bytes : List ℕ) : Type 0 where
   pub open_head : HasNoResponse rest
   pub lawful : MayBecomeResponse rest
 
--- Why the bytes are no response. Where several hold of a chunked body, or where they end in a head that no continuation
--- makes lawful, each is right. A failing reader and want of memory say nothing of the bytes.
+-- Why the bytes are no response. Several faults may hold of a chunked body, and where the bytes end in a head that no
+-- continuation makes valid: each is right. A fault of the reader or of memory says nothing of the bytes.
 abbrev pub RefusesResponse : List ℕ → WireFault → Type 0
 RefusesResponse bytes BadHead = RefusesHead bytes
 RefusesResponse bytes Chunked = RefusesRest bytes Chunked
@@ -134,7 +134,7 @@ RefusesResponse bytes Cut = EndsInResponse bytes ⊎ RefusesRest bytes Cut
 RefusesResponse bytes Io = ⊤
 RefusesResponse bytes Memory = ⊤
 
--- the body isn't whole: where it ends with the stream it never is before
+-- the body isn't whole. A body that ends with the stream never is before that.
 abbrev pub AwaitsBody : Framing → List ℕ → Type 0
 AwaitsBody (Sized n) bytes = length bytes < n
 AwaitsBody Chunks bytes = AwaitsChunks bytes
@@ -149,17 +149,17 @@ pub record AwaitsRest (bytes : List ℕ) : Type 0 where
   pub framed : framing_of (status_code head) (fields_in head) ≡ Ok framing
   pub open_body : AwaitsBody framing behind
 
--- a head isn't whole, and goes by the grammar so far, at least up to its last line feed
+-- a head isn't whole, and follows the grammar so far, at least up to its last line feed
 abbrev pub IsOpenResponse : List ℕ → Type 0
 IsOpenResponse bytes = HasNoResponse bytes × UpToLine MayBecomeResponse bytes
 
--- behind interim heads a head is open
+-- after interim heads comes a head that isn't whole
 pub record AwaitsHead (bytes : List ℕ) : Type 0 where
   pub interim : List ResponseHead
   pub rest : List ℕ
   pub skips : Skips bytes interim rest
   pub open_head : IsOpenResponse rest
 
--- a response isn't whole: a head is open, or the body behind the final one
+-- a response isn't whole: a head isn't, or the body after the final head
 abbrev pub AwaitsResponse : List ℕ → Type 0
 AwaitsResponse bytes = AwaitsHead bytes ⊎ AwaitsRest bytes

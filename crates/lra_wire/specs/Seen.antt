@@ -1,11 +1,12 @@
--- What was seen of the bytes of a response that hold no whole one.
+-- Findings on bytes of a response that isn't whole.
 use Rattle.std.specs.Prelude.{ℕ, List}
 use Rattle.lra_wire.specs.declared.coming.SeenResponse.{SeenResponse}
 use Rattle.lra_wire.specs.inner.Parts.{Passes, SeesBody}
 use Rattle.lra_wire.specs.inner.Wanted.{Seeks}
 
--- What was seen holds of the bytes: the interim heads that were read stand there, and behind them the final head and
--- the chunks that were; and no response is whole before there is a line feed, or as many bytes, as is wanted.
+-- The findings hold of the bytes. The bytes begin with the interim heads that were read, and then have the final head
+-- and the chunks that were read. No response is whole before the line feed, or the number of bytes, that is wanted has
+-- come.
 pub record SeesResponse (seen : SeenResponse) (bytes : List ℕ) : Type 0 where
   pub passed : Passes bytes seen.passed
   pub body : SeesBody seen.head seen.chunks bytes

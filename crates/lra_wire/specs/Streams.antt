@@ -1,4 +1,4 @@
--- Streams of bytes that may be known, and bytes that are looked at line by line.
+-- Streams of bytes that may be known, and bytes that are read line by line.
 use Rattle.std.specs.Prelude.{◌≡◌, ℕ, ◌==◌, false, List, ◌++◌, Option, Some, None, ⊤}
 use Rattle.std.specs.List.{list_any}
 
@@ -9,7 +9,7 @@ IfBothKnown None new P = ⊤
 IfBothKnown (Some xs) None P = ⊥
 IfBothKnown (Some xs) (Some ys) P = P xs ys
 
--- Such a text is a front of the bytes, with their last line feed: none stands behind it.
+-- Such a text is a prefix of the bytes, and includes their last line feed: none comes after it.
 pub record UpToLine (P : List ℕ → Type 0) (bytes : List ℕ) : Type 0 where
   pub front : List ℕ
   pub back : List ℕ

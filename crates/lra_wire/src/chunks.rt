@@ -1,4 +1,4 @@
-//! The chunks of a body, read of the bytes that came (RFC 9112, section 7.1).
+//! Reading of a body's chunks from the bytes that came (RFC 9112, section 7.1).
 ghost use Rattle.std.specs.Prelude.{◌≡◌, ◌≤◌, ◌+◌, [], length};
 ghost use Rattle.lra_wire.specs.inner.Chunked.{FindsLine, FindsTrailer, has_line_end, OneMore};
 ghost use Rattle.lra_wire.specs.inner.Chunked.{HasRead, FindsEnd, FindsContent, FindsPart};
@@ -14,21 +14,21 @@ use httparse::{Status, parse_chunk_size};
 use std::alloc::Global;
 use std::mem;
 
-/// The most bytes of a response, with the interim heads before it.
+/// Largest number of bytes of a response, including the interim heads before it.
 pub const MAX_RESPONSE: usize = 1 << 20;
 
-/// The next part of a chunked body, as far as it came.
+/// Next part of a chunked body, as far as it came.
 #[derive(Clone, Copy)]
 enum Part {
-    /// A chunk, whose content lies between these places. Two bytes of line end follow it.
+    /// Chunk, whose content lies between these offsets. Two bytes of line end follow it.
     Content(usize, usize),
-    /// The last line and the trailer, which end here.
+    /// Last line and the trailer, which end at this offset.
     Last(usize),
-    /// A part that isn't whole.
+    /// Part that isn't whole.
     Open(Wanted),
 }
 
-/// The chunks of a body that were read.
+/// Chunks of a body that were read so far.
 #[derive(Drop)]
 pub(crate) struct ChunksRead {
     pub(crate) start: usize,
@@ -37,7 +37,7 @@ pub(crate) struct ChunksRead {
 }
 
 impl ChunksRead {
-    /// Hands the whole body out, and begins anew where it began.
+    /// Returns the whole body, and resets the reading to where the body began.
     fn hand_out(&mut self, alloc: Global) -> Vec<u8>
         ensures body { result.items ≡ self.old.body.items }
         ensures start { self.new.start ≡ self.old.start }
@@ -49,7 +49,7 @@ impl ChunksRead {
     }
 }
 
-/// Returns whether a CRLF stands there.
+/// Returns whether the bytes at `at` are CRLF.
 fn has_line_end(bytes: &[u8], at: usize) -> bool
     requires { at + 2 ≤ length bytes.now }
     ensures { result ≡ has_line_end bytes.now at }
@@ -57,7 +57,8 @@ fn has_line_end(bytes: &[u8], at: usize) -> bool
     bytes[at] == b'\r' && bytes[at + 1] == b'\n'
 }
 
-/// Returns the length of the chunk line at the front of the bytes, and its number, or none where more may complete it.
+/// Returns the length of the chunk line that the bytes begin with, and the chunk's size, or none where more bytes may
+/// complete the line.
 fn line_at(bytes: &[u8]) -> Result<Option<(usize, u64)>, WireFault>
     ensures { FindsLine bytes.now result }
 {
@@ -68,7 +69,7 @@ fn line_at(bytes: &[u8]) -> Result<Option<(usize, u64)>, WireFault>
     }
 }
 
-/// Returns the length of the trailer at the front of the bytes, or none where more may complete it.
+/// Returns the length of the trailer that the bytes begin with, or none where more bytes may complete it.
 fn trailer_at(bytes: &[u8]) -> Result<Option<usize>, WireFault>
     ensures { FindsTrailer bytes.now result }
 {
@@ -80,7 +81,7 @@ fn trailer_at(bytes: &[u8]) -> Result<Option<usize>, WireFault>
     }
 }
 
-/// Returns that a line feed is wanted behind these bytes, if there may be more.
+/// Returns that a line feed is wanted after these bytes, or `TooLarge` where a response may have no more bytes.
 fn next_feed(bytes: &[u8]) -> Result<Wanted, WireFault>
     ensures { OneMore bytes.now result }
 {
@@ -90,7 +91,7 @@ fn next_feed(bytes: &[u8]) -> Result<Wanted, WireFault>
     Ok(Wanted::Feed(bytes.len()))
 }
 
-/// Reads the trailer that begins at `start`, behind the last line.
+/// Reads the trailer that begins at `start`, after the last line.
 fn last_at(bytes: &[u8], start: usize) -> Result<Part, WireFault>
     requires { start ≤ length bytes.now }
     ensures { FindsEnd start bytes.now result }
@@ -105,7 +106,7 @@ fn last_at(bytes: &[u8], start: usize) -> Result<Part, WireFault>
     Ok(Part::Last(end))
 }
 
-/// Reads the content of a chunk that begins at `start`, where the body has so much room left.
+/// Reads the content of a chunk, of `size` bytes from `start` on. The body has room for `room` more bytes.
 fn content_at(bytes: &[u8], start: usize, room: usize, size: u64) -> Result<Part, WireFault>
     requires start { start ≤ length bytes.now }
     requires room { room ≤ 65536 }
@@ -127,7 +128,7 @@ fn content_at(bytes: &[u8], start: usize, room: usize, size: u64) -> Result<Part
     Ok(Part::Content(start, to))
 }
 
-/// Reads the part of a chunked body that begins at `start`, where the body has so much room left.
+/// Reads the part of a chunked body that begins at `start`. The body has room for `room` more bytes.
 fn part_at(bytes: &[u8], start: usize, room: usize) -> Result<Part, WireFault>
     requires start { start ≤ length bytes.now }
     requires room { room ≤ 65536 }
@@ -143,7 +144,7 @@ fn part_at(bytes: &[u8], start: usize, room: usize) -> Result<Part, WireFault>
     }
 }
 
-/// Reads the rest of the chunks, and the trailer.
+/// Reads the rest of the chunks and the trailer, as far as they came.
 pub(crate) fn chunks_at(
     alloc: Global,
     bytes: &[u8],

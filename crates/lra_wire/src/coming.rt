@@ -1,4 +1,4 @@
-//! The response at the front of bytes that came, with no reader.
+//! The response that the bytes which came begin with, read without a reader.
 ghost use Rattle.std.specs.Prelude.{◌≡◌, ◌≤◌, ℕ, List, ◌++◌, length, IfOk, IfSome, IfNone};
 ghost use Rattle.lra_wire.specs.declared.coming.SeenResponse.{SeenResponse};
 ghost use Rattle.lra_wire.specs.Coming.{IsComing};
@@ -27,36 +27,36 @@ use crate::response::{Head, MAX_INTERIM, ResponseRead, head_at, is_interim};
 use crate::wanted::{BodyFront, Wanted, behind};
 use std::alloc::Global;
 
-/// The response at the front of bytes that came, whole or not yet.
+/// Response that the bytes which came begin with, whole or not yet.
 #[derive(Debug, Drop)]
 pub enum Coming {
-    /// A whole response, and how many bytes it takes, with the interim heads before it.
+    /// Whole response, and the number of its bytes, including the interim heads before it.
     Whole(ResponseRead, usize),
-    /// More bytes are wanted: it isn't whole before there are so many.
+    /// Number of bytes that have to come before the response can be whole.
     Open(usize),
 }
 
-/// The interim heads that were read.
+/// Interim heads that were read.
 #[derive(Clone, Copy)]
 struct Passed {
-    /// Where they end.
+    /// Offset at which they end.
     end: usize,
     count: usize,
 }
 
-/// The findings on bytes that hold no whole response, so that the bytes needn't be read anew with each next piece.
+/// Findings on bytes that hold no whole response, so that the bytes needn't be read anew whenever a piece comes.
 #[derive(Drop)]
 pub struct SeenResponse {
     passed: Passed,
-    /// The final head, once it was read.
+    /// Final head, once it was read.
     head: Option<Head>,
-    /// The chunks that were read of a chunked body behind it.
+    /// Chunks that were read of a chunked body after it.
     chunks: ChunksRead,
     wanted: Wanted,
 }
 
 impl SeenResponse {
-    /// Nothing was looked at.
+    /// Makes findings on no bytes.
     pub fn nothing(alloc: Global) -> SeenResponse
         ensures { (bytes : List ℕ) → SeesResponse result bytes }
     {
@@ -72,7 +72,7 @@ impl SeenResponse {
         }
     }
 
-    /// Returns how many bytes there may be where a line isn't whole.
+    /// Returns the number of bytes at which a line that isn't whole is too long.
     fn most(&self) -> usize
         requires { self.now.passed.end ≤ 65536 }
         ensures is { result ≡ most_bytes self.now.head self.now.passed }
@@ -84,12 +84,12 @@ impl SeenResponse {
         }
     }
 
-    /// Returns what is wanted still of these bytes, of which a front was seen: nothing, where it came.
+    /// Returns what is still wanted after these bytes, of which a prefix was seen, or nothing where it came.
     fn still_wanted(&self, bytes: &[u8]) -> Option<Wanted>
         requires { SeesResponse self.now bytes.now }
         ensures some { IfSome result (IsOpenAt AwaitsResponse 0 bytes.now) }
 
-        // Nothing is read anew before, but where there are too many bytes for a line that isn't whole.
+        // The bytes are read anew before that only where they are too many for a line that isn't whole.
         ensures none { IfNone result (IsMissing self.now.wanted bytes.now
             → most_bytes self.now.head self.now.passed ≤ length bytes.now) }
     {
@@ -112,7 +112,7 @@ impl SeenResponse {
         }
     }
 
-    /// The final head, or none where more bytes may complete it. Once it was read it isn't looked for.
+    /// Returns the final head, or none where more bytes may complete it. The head is read only once.
     fn find_head(&mut self, bytes: &[u8]) -> Result<Option<Head>, WireFault>
         requires { SeesResponse self.old bytes.now }
         ensures sees { SeesResponse self.new bytes.now }
@@ -130,7 +130,7 @@ impl SeenResponse {
         Ok(Some(head))
     }
 
-    /// Returns the response whose body ends with the stream, and how many bytes it takes.
+    /// Returns the response whose body ends with the stream, and the number of its bytes.
     fn rest(&self, alloc: Global, bytes: &[u8]) -> Result<(ResponseRead, usize), WireFault>
         requires sees { SeesResponse self.now bytes.now }
         requires ends { EndsOpen self.now.head bytes.now }
@@ -150,7 +150,7 @@ impl SeenResponse {
         }
     }
 
-    /// That is wanted before a response can be whole.
+    /// Notes what is wanted before a response can be whole, and returns how many bytes that takes.
     fn open(&mut self, wanted: Wanted) -> Coming
         requires { count_wanted wanted ≤ 1048576 }
         ensures new { self.new ≡ record self.old { wanted = wanted } }
@@ -164,7 +164,8 @@ impl SeenResponse {
     }
 }
 
-/// The head behind the interim ones, with the place where it ends, or none where more bytes may complete it.
+/// Returns the head after the interim ones, or none where more bytes may complete it. Its `len` is the offset at which
+/// it ends.
 fn final_head(bytes: &[u8], passed: &mut Passed) -> Result<Option<Head>, WireFault>
     requires { Passes bytes.now passed.old }
     ensures passes { Passes bytes.now passed.new }
@@ -190,7 +191,8 @@ fn final_head(bytes: &[u8], passed: &mut Passed) -> Result<Option<Head>, WireFau
     }
 }
 
-/// The body whose chunks were read so far, if it has some. One that ends with the stream isn't whole before that.
+/// Reads the body on from the chunks that were read so far, if it has chunks. A body that ends with the stream isn't
+/// whole here.
 fn body_at(
     alloc: Global,
     bytes: &[u8],
@@ -225,17 +227,17 @@ fn body_at(
     }
 }
 
-/// The response at the front of the bytes that came so far, or how many there have to be before it can be whole. Its
-/// faults are those of [`read_response`](crate::read_response), but for what the end of a stream or a reader brings; a
-/// body that ends with the stream is never whole here.
+/// Returns the response that the bytes which came so far begin with, or how many bytes there have to be before it can
+/// be whole. Its faults are those of [`read_response`](crate::read_response), without those of a stream's end and of a
+/// reader. A body that ends with the stream is never whole here.
 pub fn response_front(alloc: Global, bytes: &[u8]) -> Result<Coming, WireFault>
     ensures { IsComing bytes.now result }
 {
     response_front_seen(alloc, bytes, &mut SeenResponse::nothing(alloc))
 }
 
-/// The same of bytes of which a front was seen: it is gone on from there, and only where a line may end in what came
-/// since, or a body.
+/// Returns the same as [`response_front`] for bytes of which a prefix was seen. It reads on from there, and only where
+/// a line or a body may end in what came since.
 pub fn response_front_seen(
     alloc: Global,
     bytes: &[u8],
@@ -251,7 +253,7 @@ pub fn response_front_seen(
     read_on(alloc, bytes, seen)
 }
 
-/// Reads on from what was seen of these bytes.
+/// Reads the response on from what was seen of these bytes.
 fn read_on(alloc: Global, bytes: &[u8], seen: &mut SeenResponse) -> Result<Coming, WireFault>
     requires { SeesResponse seen.old bytes.now }
     ensures coming { IsComing bytes.now result }
@@ -270,7 +272,8 @@ fn read_on(alloc: Global, bytes: &[u8], seen: &mut SeenResponse) -> Result<Comin
     }
 }
 
-/// Returns the response of a stream that ends with these bytes, of which a front was seen, and how many bytes it takes.
+/// Returns the response of a stream that ends with these bytes, and the number of its bytes. A prefix of the bytes was
+/// seen.
 pub(crate) fn response_at_end(
     alloc: Global,
     bytes: &[u8],
@@ -285,7 +288,7 @@ pub(crate) fn response_at_end(
     }
 }
 
-/// Says that what was seen of bytes holds of them and more.
+/// States that findings on bytes hold also of longer ones that begin with them.
 pub fn seen_stays()
     ensures { (seen : SeenResponse) (bytes more : List ℕ)
         → SeesResponse seen bytes → SeesResponse seen (bytes ++ more) }

@@ -1,4 +1,4 @@
-//! Why a message could not be read or written.
+//! Reason why a message could not be read or written.
 ghost use Rattle.std.specs.Prelude.{◌≡◌};
 ghost use Rattle.lra_wire.specs.declared.fault.WireFault.TheVariants.{Memory};
 
@@ -6,28 +6,28 @@ use std::alloc::{AllocError, AllocFailed};
 use std::error::Error;
 use std::fmt;
 
-/// Why a message could not be read or written.
+/// Reason why a message could not be read or written.
 #[derive(Clone, Copy, Debug, PartialEq, Eq)]
 pub enum WireFault {
-    /// The head is no head of HTTP/1.0 or HTTP/1.1, is past the limits, or is one of HTTP/1.1
-    /// without exactly one `Host`.
+    /// The head isn't one of HTTP/1.0 or HTTP/1.1, exceeds the limits, or is one of HTTP/1.1 without exactly one
+    /// `Host`.
     BadHead,
-    /// A coding or an expectation that isn't served here.
+    /// The message has a coding or an expectation that isn't supported.
     Chunked,
-    /// The length of the body isn't stated as it should be.
+    /// The length of the body is stated wrongly.
     BadLength,
-    /// The body is past the limit.
+    /// The body exceeds the limit.
     TooLarge,
     /// The stream ends inside the message.
     Cut,
     /// The reader or the writer failed.
     Io,
-    /// A growth was refused.
+    /// Memory was refused.
     Memory,
 }
 
 impl WireFault {
-    /// Returns the text that a person is told.
+    /// Returns the text for a user.
     const fn text(self) -> &'static str {
         match self {
             WireFault::BadHead => "bad head",

@@ -18,7 +18,7 @@ ghost use Rattle.lra_wire.specs.inner.Fields.{Shows};
 
 use httparse::spans::HeaderSpan;
 
-/// The field of one name, of which a head may have none or several.
+/// Field of one name, of which a head may have none or several.
 #[derive(Clone, Copy)]
 pub(crate) enum Named<'b> {
     Absent,
@@ -27,7 +27,7 @@ pub(crate) enum Named<'b> {
 }
 
 impl<'b> Named<'b> {
-    /// Returns what was found with one more value behind it.
+    /// Returns what is found once one more value follows.
     fn and(self, value: &'b [u8]) -> Named<'b>
         ensures { (values : List (List ℕ)) → Shows self.entry values
             → Shows result (values ++ value.now ∷ []) }
@@ -40,7 +40,7 @@ impl<'b> Named<'b> {
     }
 }
 
-/// The value of `Content-Length`.
+/// Value of `Content-Length`.
 #[derive(Clone, Copy)]
 pub(crate) enum Stated {
     Nothing,
@@ -48,10 +48,10 @@ pub(crate) enum Stated {
     Malformed,
 }
 
-/// The most digits of a `Content-Length`, so that its number fits 64 bits.
+/// Largest number of digits of a `Content-Length`, so that its value fits 64 bits.
 const MAX_DIGITS: usize = 19;
 
-/// The field of a name, in any case.
+/// Returns the field of a name, whose case doesn't matter.
 pub(crate) fn lookup<'b>(bytes: &'b [u8], fields: &[HeaderSpan], name: &[u8]) -> Named<'b>
     requires { All (IsHeaderWithin (length bytes.now)) fields.now }
     ensures { Shows result (values_of name.now (map (header_bytes bytes.now) fields.now)) }
@@ -65,7 +65,7 @@ pub(crate) fn lookup<'b>(bytes: &'b [u8], fields: &[HeaderSpan], name: &[u8]) ->
     found
 }
 
-/// Returns whether a field has the name, in any case.
+/// Returns whether a field has the name, whose case doesn't matter.
 pub(crate) fn has(bytes: &[u8], fields: &[HeaderSpan], name: &[u8]) -> bool
     requires { All (IsHeaderWithin (length bytes.now)) fields.now }
     ensures { result ≡ has_field name.now (map (header_bytes bytes.now) fields.now) }
@@ -77,14 +77,14 @@ pub(crate) fn has(bytes: &[u8], fields: &[HeaderSpan], name: &[u8]) -> bool
     }
 }
 
-/// Returns whether two texts differ in the case of their letters at most.
+/// Returns whether two texts are equal but for the case of their letters.
 pub(crate) fn is_alike(a: &[u8], b: &[u8]) -> bool
     ensures { result ≡ is_alike a.now b.now }
 {
     a.eq_ignore_ascii_case(b)
 }
 
-/// Returns what `Content-Length` says (RFC 9110, section 8.6).
+/// Returns the length that `Content-Length` states, if it states one (RFC 9110, section 8.6).
 pub(crate) fn stated_length(bytes: &[u8], fields: &[HeaderSpan]) -> Stated
     requires { All (IsHeaderWithin (length bytes.now)) fields.now }
     ensures { result ≡ stated_of (map (header_bytes bytes.now) fields.now) }
@@ -96,7 +96,7 @@ pub(crate) fn stated_length(bytes: &[u8], fields: &[HeaderSpan]) -> Stated
     }
 }
 
-/// The number that 1 to 19 decimal digits spell.
+/// Returns the number that 1 to 19 decimal digits spell, or `Malformed` for any other text.
 fn spelled_length(value: &[u8]) -> Stated
     ensures { result ≡ spelled_length value.now }
 {
@@ -139,7 +139,7 @@ pub(crate) fn lists_close(bytes: &[u8], fields: &[HeaderSpan]) -> bool
     false
 }
 
-/// Returns whether a list has the element, in any case (RFC 9110, section 5.6.1).
+/// Returns whether a list has the element, whose case doesn't matter (RFC 9110, section 5.6.1).
 fn has_element(element: &[u8], list: &[u8]) -> bool
     ensures { result ≡ has_element element.now list.now }
 {
@@ -147,7 +147,7 @@ fn has_element(element: &[u8], list: &[u8]) -> bool
         .any(|part| is_alike(trim(part), element))
 }
 
-/// The bytes without spaces and tabs at both ends.
+/// Returns the bytes without spaces and tabs at both ends.
 fn trim(bytes: &[u8]) -> &[u8]
     ensures { result.now ≡ trim_ows bytes.now }
 {

@@ -8,7 +8,7 @@ use crate::fields::{Named, Stated, is_alike, lookup, stated_length};
 use crate::request::MAX_BODY;
 use httparse::spans::HeaderSpan;
 
-/// The end of a response's body (RFC 9112, section 6.3).
+/// End of a response's body (RFC 9112, section 6.3).
 #[derive(Clone, Copy)]
 pub(crate) enum Framing {
     /// After so many bytes.

@@ -1,4 +1,4 @@
-//! The request at the front of bytes that came, with no reader.
+//! The request that the bytes which came begin with, read without a reader.
 ghost use Rattle.std.specs.Prelude.{◌≡◌, ◌≢◌, ℕ, List, ◌++◌, true};
 ghost use Rattle.lra_wire.specs.declared.fault.WireFault.{WireFault};
 ghost use Rattle.lra_wire.specs.declared.fault.WireFault.TheVariants.{Memory};
@@ -13,32 +13,32 @@ use crate::request::{RequestRead, body_length_at, head_at, request_at};
 use httparse::spans::EMPTY_HEADER_SPAN;
 use std::alloc::Global;
 
-/// A request, and how many bytes it takes.
+/// Request, and the number of its bytes.
 #[derive(Debug, Drop)]
 pub struct Front {
     pub request: RequestRead,
     pub len: usize,
 }
 
-/// The request at the front of bytes: whole, or open in its head or its body.
+/// Request that bytes begin with: whole, or unfinished in its head or its body.
 #[derive(Drop)]
 enum Sought {
     Whole(Front),
     OpenHead,
-    /// A whole head, and how many bytes there are once the body is whole.
+    /// Whole head, and the number of bytes that there are once the body is whole.
     OpenBody(usize),
 }
 
-/// The findings on bytes that hold no whole request, so that the bytes needn't be read anew with each next piece.
+/// Findings on bytes that hold no whole request, so that the bytes needn't be read anew whenever a piece comes.
 #[derive(Clone, Copy)]
 pub struct Seen {
     looked: usize,
-    /// The number of bytes that there are once the body is whole, or 0 where the head isn't.
+    /// Number of bytes that there are once the body is whole, or 0 where the head isn't whole.
     wanted: usize,
 }
 
 impl Seen {
-    /// Nothing was looked at.
+    /// Makes findings on no bytes.
     pub fn nothing() -> Seen
         ensures { (bytes : List ℕ) → Sees result bytes }
     {
@@ -48,7 +48,7 @@ impl Seen {
         }
     }
 
-    /// Returns whether these bytes, of which a front was seen, can hold no whole request yet.
+    /// Returns whether these bytes can't hold a whole request yet. A prefix of them was seen.
     fn stays_open(&self, bytes: &[u8]) -> bool
         requires { Sees self.now bytes.now }
         ensures { result ≡ true → StaysOpen self.now.wanted bytes.now }
@@ -80,8 +80,8 @@ fn find_front(alloc: Global, bytes: &[u8]) -> Result<Sought, WireFault>
     Ok(Sought::Whole(Front { request, len }))
 }
 
-/// The request at the front of the bytes that came so far, or none where more are wanted. Its faults are those of
-/// [`read_request`](crate::read_request), but for what the end of a stream or a reader brings.
+/// Returns the request that the bytes which came so far begin with, or none where more are wanted. Its faults are those
+/// of [`read_request`](crate::read_request), without those of a stream's end and of a reader.
 pub fn request_front(alloc: Global, bytes: &[u8]) -> Result<Option<Front>, WireFault>
     ensures { IsFront bytes.now result }
 {
@@ -93,7 +93,8 @@ pub fn request_front(alloc: Global, bytes: &[u8]) -> Result<Option<Front>, WireF
     }
 }
 
-/// The same of bytes of which a front was seen: they are read only where a head may end in what came since, or a body.
+/// Returns the same as [`request_front`] for bytes of which a prefix was seen. It reads them only where a head or a
+/// body may end in what came since.
 pub fn request_front_seen(
     alloc: Global,
     bytes: &[u8],
@@ -122,8 +123,8 @@ pub fn request_front_seen(
     }
 }
 
-/// Returns what it means that a stream ends with these bytes, where more of a request is wanted: nothing, or that it
-/// was cut.
+/// Returns the fault of a stream that ends with these bytes, where more of a request is wanted: `Cut`, or none where
+/// there are no bytes.
 pub fn end_fault(bytes: &[u8]) -> Option<WireFault>
     requires { IsUnfinished bytes.now }
     ensures { EndsWith bytes.now result }
@@ -135,7 +136,7 @@ pub fn end_fault(bytes: &[u8]) -> Option<WireFault>
     }
 }
 
-/// Says that [`request_front`] gives the one reading of the bytes, whatever follows them.
+/// States that [`request_front`] gives the only reading of the bytes, whatever follows them.
 pub fn one_front()
     ensures stays { (bytes more : List ℕ) (request : Request) (rest : List ℕ)
         → IsRequest bytes request rest → IsRequest (bytes ++ more) request (rest ++ more) }

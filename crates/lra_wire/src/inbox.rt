@@ -1,4 +1,4 @@
-//! A reader, and the bytes that came before they were asked for.
+//! A reader, and the bytes that it gave before they were asked for.
 ghost use Rattle.std.specs.Prelude.{◌≡◌, ◌<◌, ◌≤◌, take, vec_len, IfOk, IfErr, Ok};
 ghost use Rattle.std.specs.Io.KnownBytes.{Consumes, IsAtEnd};
 
@@ -7,10 +7,10 @@ use std::alloc::{AllocError, Global};
 use std::io::Read;
 use std::snapshot::Snapshot;
 
-/// The number of bytes that a read asks for.
+/// Number of bytes that a read asks for.
 const PIECE: usize = 4096;
 
-/// One read into the piece.
+/// Reads once into the piece, and returns how many bytes came.
 fn read_piece<R: Read>(reader: &mut R, piece: &mut Vec<u8>) -> Result<usize, WireFault>
     requires { 0 < vec_len piece.old }
     ensures len { vec_len piece.new ≡ vec_len piece.old }
@@ -26,17 +26,17 @@ fn read_piece<R: Read>(reader: &mut R, piece: &mut Vec<u8>) -> Result<usize, Wir
     }
 }
 
-/// A reader together with the bytes that it gave early: those of later messages.
+/// Reader, together with the bytes of later messages that it gave early.
 ///
-/// After a fault nothing more is read, and each further call answers [`WireFault::Cut`].
+/// After a fault nothing more is read, and each further call returns [`WireFault::Cut`].
 #[derive(Drop)]
 pub struct Inbox<R> {
     reader: R,
-    /// Where a read puts its bytes, which is as long as a read may be.
+    /// Buffer that a read puts its bytes in. It is as long as a read may be.
     piece: Vec<u8>,
     kept: Vec<u8>,
     taken: usize,
-    /// The bytes that were kept when the reader was last asked for more. They are for contracts, and take no memory.
+    /// Bytes that were kept when the reader was last asked for more. They are for contracts, and take no memory.
     asked: Snapshot<Vec<u8>>,
     pub(crate) spent: bool,
     ghost in_range: { taken ≤ vec_len kept },
@@ -48,7 +48,7 @@ impl<R: Read + Drop> Inbox<R> {
     ghost use Rattle.lra_wire.specs.Inbox.{kept_bytes, stream_of, asked_at, is_spent, AsksAt};
     ghost use Rattle.lra_wire.specs.inner.Growth.{Fills};
 
-    /// An inbox that has read nothing yet. Where memory is refused the reader is dropped.
+    /// Makes an inbox that has read nothing yet. Where memory is refused, the reader is dropped.
     pub fn new(alloc: Global, reader: R) -> Result<Inbox<R>, AllocError>
         ensures stream { IfOk result (λ inbox. stream_of R.remaining inbox ≡ R.remaining reader) }
         ensures spent { IfOk result (λ inbox. IsFalse (is_spent inbox)) }
@@ -66,15 +66,15 @@ impl<R: Read + Drop> Inbox<R> {
         })
     }
 
-    /// The bytes that came and belong to no message yet.
+    /// Returns the bytes that came and belong to no message yet.
     pub(crate) fn bytes(&self) -> &[u8]
         ensures { result.now ≡ kept_bytes self.now }
     {
         &self.kept.as_slice()[self.taken..]
     }
 
-    /// Reads once, and answers whether bytes came: none come at the end of the stream alone.
-    /// Nothing else asks the reader.
+    /// Reads once, and returns whether bytes came. None come only at the end of the stream. No other function reads
+    /// from the reader.
     pub(crate) fn fill(&mut self) -> Result<bool, WireFault>
         ensures fills { Fills R.remaining self.old self.new result }
         ensures asks { AsksAt (λ bytes. bytes ≡ kept_bytes self.old) self.old self.new }
@@ -87,7 +87,7 @@ impl<R: Read + Drop> Inbox<R> {
         Ok(count > 0)
     }
 
-    /// The first bytes were a message's.
+    /// Drops the first `len` bytes, which were a message's.
     pub(crate) fn take(&mut self, len: usize)
         requires { len ≤ length (kept_bytes self.old) }
         ensures kept { kept_bytes self.new ≡ drop len (kept_bytes self.old) }
@@ -97,7 +97,7 @@ impl<R: Read + Drop> Inbox<R> {
         self.taken += len;
     }
 
-    /// Moves the bytes that belong to no message yet to the front of their buffer, which keeps its room.
+    /// Moves the bytes that belong to no message yet to the front of their buffer, which keeps its capacity.
     fn drop_taken(&mut self)
         ensures kept { kept_bytes self.new ≡ kept_bytes self.old }
         ensures taken { self.new.taken ≡ 0 }

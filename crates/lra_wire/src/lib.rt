@@ -1,8 +1,8 @@
 //! HTTP/1.x messages (RFC 9112) on a byte stream: requests and responses read within limits, and
 //! written.
 //!
-//! A message is what its bytes say, in whatever pieces a reader gives them. What came early stays
-//! in the [`Inbox`] for the next call.
+//! A message is what its bytes say, in whatever pieces a reader gives them. Bytes that came early stay in the [`Inbox`]
+//! for the next call.
 #![tactic(auto)]
 
 mod chunks;

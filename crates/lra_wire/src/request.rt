@@ -1,4 +1,4 @@
-//! Requests, read.
+//! Reading of requests.
 ghost use Rattle.std.specs.Prelude.{
   ◌≡◌,
   ◌≤◌,
@@ -42,10 +42,10 @@ use httparse::spans::{HeaderSpan, RequestSpans, parse_request};
 use std::alloc::{AllocError, Global};
 use std::io::Read;
 
-/// The most bytes of a body.
+/// Largest number of bytes of a body.
 pub(crate) const MAX_BODY: usize = 65_536;
 
-/// A request as its bytes say it.
+/// Request, as its bytes say it.
 #[derive(Debug, Drop)]
 pub struct RequestRead {
     /// The method, in the case in which it came.
@@ -54,11 +54,11 @@ pub struct RequestRead {
     pub target: String,
     /// The minor version: 0 for HTTP/1.0, 1 for HTTP/1.1.
     pub minor: u8,
-    /// True where the stream is to be closed after the reply: a `Connection` field lists `close`, or the request is one
+    /// Flag that the stream is to be closed after the reply: a `Connection` field lists `close`, or the request is one
     /// of HTTP/1.0.
     pub close: bool,
     pub body: Vec<u8>,
-    /// By which it is told who asks, from where and with what.
+    /// Values of the fields that say which client asks, from where, and with what.
     pub fields: RequestFields,
 }
 
@@ -77,7 +77,7 @@ pub fn read_request<R: Read + Drop>(
     ensures ok { OnOk result (IsFalse (is_spent inbox.new)) }
     ensures err { OnErr result (IsTrue (is_spent inbox.new)) }
 
-    // More is asked for only where the bytes that came spell no request, and go by the grammar so far, at
+    // The reader is asked for more only where the bytes that came spell no request, and follow the grammar so far, at
     // least up to their last line feed.
     ensures rests { AsksAt AwaitsRequest inbox.old inbox.new }
 {
@@ -89,9 +89,8 @@ pub fn read_request<R: Read + Drop>(
     request
 }
 
-/// A stream of bytes is one list of requests, and ends in one way: at its end, or in one fault. Where
-/// it ends in a head that no continuation makes lawful, that is [`WireFault::BadHead`] or
-/// [`WireFault::Cut`].
+/// States that a stream of bytes spells one list of requests, and ends in one way: at its end, or in one fault. Where
+/// it ends in a head that no continuation makes valid, the fault is [`WireFault::BadHead`] or [`WireFault::Cut`].
 pub fn one_reading()
     ensures reading { (bytes : List ℕ) (requests others : List Request) (end other : Option WireFault)
         → Requests bytes requests end → Requests bytes others other
@@ -102,7 +101,7 @@ pub fn one_reading()
         → AwaitsRequest bytes → ¬ (IsRequest bytes request rest) }
 {}
 
-/// Reads until a request stands at the front of what came, and takes it.
+/// Reads until the bytes that came begin with a request, and takes it from them.
 fn next_request<R: Read + Drop>(
     alloc: Global,
     inbox: &mut Inbox<R>,
@@ -123,7 +122,7 @@ fn next_request<R: Read + Drop>(
     }
 }
 
-/// Returns why a stream that ends with these bytes has no further request, unless there are none.
+/// Returns the fault of a stream that ends with these bytes inside a request. It is no fault that there are no bytes.
 fn end_at(alloc: Global, bytes: &[u8]) -> Result<(), WireFault>
     requires { AwaitsRequest bytes.now }
     ensures { EndsAt bytes.now result }
@@ -137,7 +136,7 @@ fn end_at(alloc: Global, bytes: &[u8]) -> Result<(), WireFault>
     }
 }
 
-/// The head at the front of the bytes, or none where more bytes may complete it.
+/// Returns the head that the bytes begin with, or none where more bytes may complete it.
 pub(crate) fn head_at(
     bytes: &[u8],
     headers: &mut [HeaderSpan; MAX_FIELDS],
@@ -156,7 +155,7 @@ pub(crate) fn head_at(
     }
 }
 
-/// Returns whether a head of HTTP/1.1 has exactly one `Host` (RFC 9112, section 3.2).
+/// Returns whether a head has exactly one `Host`, or is one of HTTP/1.0, which needs none (RFC 9112, section 3.2).
 fn has_host(bytes: &[u8], minor: u8, fields: &[HeaderSpan]) -> bool
     requires { All (IsHeaderWithin (length bytes.now)) fields.now }
     ensures { result ≡ has_host minor (map (header_bytes bytes.now) fields.now) }
@@ -171,7 +170,7 @@ fn has_host(bytes: &[u8], minor: u8, fields: &[HeaderSpan]) -> bool
     }
 }
 
-/// Returns the length of the body behind the head that is at the front of the bytes.
+/// Returns the length of the body that follows the head which the bytes begin with.
 pub(crate) fn body_length_at(
     bytes: &[u8],
     headers: &[HeaderSpan],
@@ -204,7 +203,7 @@ fn body_length(bytes: &[u8], fields: &[HeaderSpan]) -> Result<usize, WireFault>
     }
 }
 
-/// The request whose head is at the front of the bytes, without its body.
+/// Returns the request whose head the bytes begin with, without its body.
 pub(crate) fn request_at(
     alloc: Global,
     bytes: &[u8],

@@ -1,4 +1,4 @@
-//! Responses, read.
+//! Reading of responses.
 ghost use Rattle.std.specs.Prelude.{◌≡◌, IfOk, IfErr, IfSome, OnOk, OnErr, IsTrue, IsFalse, Err};
 ghost use Rattle.lra_wire.specs.Inbox.{stream_of, is_spent, AsksAt};
 ghost use Rattle.lra_wire.specs.Response.{is_interim, IsResponse, RefusesResponse, AwaitsResponse};
@@ -16,22 +16,22 @@ use httparse::spans::{EMPTY_HEADER_SPAN, parse_response};
 use std::alloc::Global;
 use std::io::Read;
 
-/// The most heads of status 100 to 199 before a response.
+/// Largest number of heads of status 100 to 199 before a response.
 pub(crate) const MAX_INTERIM: usize = 8;
 
-/// A response as its bytes say it.
+/// Response, as its bytes say it.
 #[derive(Debug, Drop)]
 pub struct ResponseRead {
-    /// The status, from 0 to 99 and from 200 to 999.
+    /// Status, from 0 to 99 and from 200 to 999.
     pub code: u16,
     pub body: Vec<u8>,
 }
 
-/// The values of a head.
+/// Values of a head.
 #[derive(Clone, Copy)]
 pub(crate) struct Head {
     pub(crate) code: u16,
-    /// The number of bytes that the head has.
+    /// Number of bytes of the head.
     pub(crate) len: usize,
     pub(crate) framing: Result<Framing, WireFault>,
 }
@@ -52,8 +52,8 @@ pub fn read_response<R: Read + Drop>(
     ensures ok { OnOk result (IsFalse (is_spent inbox.new)) }
     ensures err { OnErr result (IsTrue (is_spent inbox.new)) }
 
-    // More is asked for only where the bytes that came spell no response, unless its body ends with the
-    // stream, and where their head goes by the grammar so far, at least up to its last line feed.
+    // The reader is asked for more only where the bytes that came spell no response, or one whose body ends with the
+    // stream. Their head follows the grammar so far, at least up to its last line feed.
     ensures rests { AsksAt AwaitsResponse inbox.old inbox.new }
 {
     if inbox.spent {
@@ -64,7 +64,7 @@ pub fn read_response<R: Read + Drop>(
     response
 }
 
-/// Reads until a response stands at the front of what came, or the stream ends, and takes it.
+/// Reads until the bytes that came begin with a response, or the stream ends. Takes the response from them.
 fn next_response<R: Read + Drop>(
     alloc: Global,
     inbox: &mut Inbox<R>,
@@ -89,14 +89,14 @@ fn next_response<R: Read + Drop>(
     }
 }
 
-/// A status of 100 to 199 (RFC 9110, section 15.2).
+/// Returns whether a status is one of 100 to 199 (RFC 9110, section 15.2).
 pub(crate) fn is_interim(code: u16) -> bool
     ensures { result ≡ is_interim code }
 {
     100 <= code && code < 200
 }
 
-/// The head at the front of the bytes, or none where more bytes may complete it.
+/// Returns the head that the bytes begin with, or none where more bytes may complete it.
 pub(crate) fn head_at(bytes: &[u8]) -> Result<Option<Head>, WireFault>
     ensures { FindsResponse bytes.now result }
 {

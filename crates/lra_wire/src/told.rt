@@ -1,4 +1,4 @@
-//! By which it is told who asks, from where and with what.
+//! The fields that say which client asks, from where, and with what.
 ghost use Rattle.std.specs.Prelude.{◌≡◌, ◌≤◌, length, map, option_map, All, IfOk};
 ghost use Rattle.httparse.specs.Spans.{IsHeaderWithin, header_bytes};
 ghost use Rattle.lra_wire.specs.Fields.{values_of};
@@ -8,7 +8,8 @@ use crate::fields::{Named, lookup};
 use httparse::spans::HeaderSpan;
 use std::alloc::{AllocError, Global};
 
-/// The values of fields of a request's head, without white space round them: of each that the head has just once.
+/// Values of fields of a request's head, without the white space around them. A field has a value here only where the
+/// head has it exactly once.
 #[derive(Debug, Drop)]
 pub struct RequestFields {
     /// `Authorization` (RFC 9110, section 11.6.2).
@@ -21,7 +22,7 @@ pub struct RequestFields {
     pub origin: Option<Vec<u8>>,
 }
 
-/// A copy of a value, if there is one.
+/// Copies a value, if there is one.
 fn copy_of(alloc: Global, value: &Option<Vec<u8>>) -> Result<Option<Vec<u8>>, AllocError>
     ensures { IfOk result (λ copy. option_map (λ v. v.items) copy ≡ option_map (λ v. v.items) value.now) }
 {
@@ -31,7 +32,7 @@ fn copy_of(alloc: Global, value: &Option<Vec<u8>>) -> Result<Option<Vec<u8>>, Al
     }
 }
 
-/// The value of the field of a name, in any case, where there is just one.
+/// Returns the value of the field of a name, where there is exactly one. The name's case doesn't matter.
 #[tactic(auto, using(crate::proofs::FieldLemmas::sole_several))]
 fn sole(
     alloc: Global,
@@ -50,7 +51,7 @@ fn sole(
     }
 }
 
-/// Returns what the fields at these places of a head say.
+/// Reads the values of the fields at these spans of a head.
 pub(crate) fn fields_at(
     alloc: Global,
     bytes: &[u8],
@@ -71,7 +72,7 @@ impl RequestFields {
     ghost use Rattle.std.specs.Prelude.{◌≡◌, [], IfOk};
     ghost use Rattle.lra_wire.specs.Request.{told_by, what_fields};
 
-    /// Those of a head that has none of them.
+    /// Returns the values for a head that has none of these fields.
     pub fn none() -> RequestFields
         ensures { what_fields result ≡ told_by [] }
     {
@@ -83,7 +84,7 @@ impl RequestFields {
         }
     }
 
-    /// Others that say the same.
+    /// Copies the values.
     pub fn copy(&self, alloc: Global) -> Result<RequestFields, AllocError>
         ensures { IfOk result (λ copy. what_fields copy ≡ what_fields self.now) }
     {

@@ -1,25 +1,25 @@
-//! Bytes that are wanted before more of a message can be said.
+//! The bytes that have to come before more of a message can be read.
 ghost use Rattle.std.specs.Prelude.{◌≡◌, ◌≤◌, length, drop};
 
-/// Bytes that are wanted before more can be said.
+/// Bytes that have to come before more can be read.
 #[derive(Clone, Copy)]
 pub(crate) enum Wanted {
-    /// A line feed, behind so many bytes.
+    /// Line feed, after so many bytes.
     Feed(usize),
-    /// So many bytes.
+    /// Total number of bytes.
     Bytes(usize),
 }
 
-/// The body behind a head, as far as it came.
+/// Body after a head, as far as it came.
 #[derive(Drop)]
 pub(crate) enum BodyFront {
-    /// A whole body, and where it ends.
+    /// Whole body, and the offset at which it ends.
     Whole(Vec<u8>, usize),
-    /// A body that isn't whole.
+    /// Body that isn't whole.
     Open(Wanted),
 }
 
-/// Returns the bytes from a place on.
+/// Returns the bytes from an offset on.
 pub(crate) fn behind(bytes: &[u8], start: usize) -> &[u8]
     requires { start ≤ length bytes.now }
     ensures { result.now ≡ drop start bytes.now }

@@ -1,4 +1,4 @@
-//! Requests and responses, written.
+//! Writing of requests and responses.
 ghost use Rattle.std.specs.Prelude.{◌≡◌, ◌≢◌, [], ◌++◌, codes, IfOk, OnOk, Err};
 ghost use Rattle.std.specs.List.{flat_map};
 ghost use Rattle.std.specs.Io.KnownBytes.{Keeps};
@@ -10,22 +10,22 @@ use itoa::Buffer;
 use std::alloc::{AllocError, Global};
 use std::io::Write;
 
-/// A request to be written.
+/// Request to be written.
 #[derive(Clone, Copy)]
 pub struct RequestWrite<'a> {
     pub method: &'a str,
     pub target: &'a str,
-    /// Names and values, in order. `Host` and `Content-Length` are the caller's to give.
+    /// Names and values, in order. The caller gives `Host` and `Content-Length`.
     pub fields: &'a [(&'a str, &'a str)],
     pub body: &'a [u8],
 }
 
-/// A response to be written.
+/// Response to be written.
 #[derive(Clone, Copy)]
 pub struct ReplyWrite<'a> {
     pub code: u16,
     pub phrase: &'a str,
-    /// Names and values, in order. `Content-Length` is the caller's to give.
+    /// Names and values, in order. The caller gives `Content-Length`.
     pub fields: &'a [(&'a str, &'a str)],
     pub body: &'a [u8],
 }
@@ -38,7 +38,7 @@ pub fn write_request<W: Write>(
 ) -> Result<(), WireFault>
     ensures text { Sends (W.contents writer.old) (W.contents writer.new) (request_text request.now) result }
 
-    // No memory, and nothing went out.
+    // Where memory is refused, nothing is written.
     ensures memory { result ≡ Err WireFault.Memory → Keeps (W.contents writer.old) (W.contents writer.new) }
 {
     match request_text(alloc, request) {
@@ -57,7 +57,7 @@ fn request_text(alloc: Global, request: &RequestWrite<'_>) -> Result<Vec<u8>, Al
     }
 }
 
-/// Makes a request's text in the empty page.
+/// Makes a request's text in the page, which is empty.
 fn lay_request(page: &mut Vec<u8>, request: &RequestWrite<'_>) -> Result<(), AllocError>
     requires { page.old.items ≡ [] }
     ensures { OnOk result (page.new.items ≡ request_text request.now) }
@@ -77,14 +77,14 @@ pub fn write_response<W: Write>(
 ) -> Result<(), WireFault>
     ensures text { Sends (W.contents writer.old) (W.contents writer.new) (reply_text reply.now) result }
 
-    // No memory, and nothing went out.
+    // Where memory is refused, nothing is written.
     ensures memory { result ≡ Err WireFault.Memory → Keeps (W.contents writer.old) (W.contents writer.new) }
 {
     write_response_in(&mut Vec::new(alloc), writer, reply)
 }
 
-/// Writes a response of HTTP/1.1 (RFC 9112, section 4). Its text is made in the page, where it takes the place of what
-/// stood there before, so that a page which is kept needs no memory for a text that is no longer than one before it.
+/// Writes a response of HTTP/1.1 (RFC 9112, section 4). Its text is made in the page, and replaces what stood there. So
+/// a page that the caller keeps needs no more memory for a text that is no longer than an earlier one.
 pub fn write_response_in<W: Write>(
     page: &mut Vec<u8>,
     writer: &mut W,
@@ -92,7 +92,7 @@ pub fn write_response_in<W: Write>(
 ) -> Result<(), WireFault>
     ensures text { Sends (W.contents writer.old) (W.contents writer.new) (reply_text reply.now) result }
 
-    // No memory, and nothing went out.
+    // Where memory is refused, nothing is written.
     ensures memory { result ≡ Err WireFault.Memory → Keeps (W.contents writer.old) (W.contents writer.new) }
 {
     page.clear();
@@ -102,7 +102,7 @@ pub fn write_response_in<W: Write>(
     }
 }
 
-/// Makes a response's text in the empty page.
+/// Makes a response's text in the page, which is empty.
 fn lay_reply(page: &mut Vec<u8>, reply: &ReplyWrite<'_>) -> Result<(), AllocError>
     requires { page.old.items ≡ [] }
     ensures { OnOk result (page.new.items ≡ reply_text reply.now) }
@@ -115,7 +115,7 @@ fn lay_reply(page: &mut Vec<u8>, reply: &ReplyWrite<'_>) -> Result<(), AllocErro
     push_rest(page, reply.fields, reply.body)
 }
 
-/// Adds what follows a start line: its end, the fields, an empty line and the body.
+/// Appends what follows a start line: its end, the fields, an empty line and the body.
 fn push_rest(text: &mut Vec<u8>, fields: &[(&str, &str)], body: &[u8]) -> Result<(), AllocError>
     ensures { OnOk result (text.new.items ≡ message_text text.old.items fields.now body.now) }
 {
@@ -149,7 +149,7 @@ fn push_text(text: &mut Vec<u8>, more: &[u8]) -> Result<(), AllocError>
     text.extend_from_slice(more)
 }
 
-/// Writes all the bytes, unless a write fails or takes none.
+/// Writes all the bytes. Returns a fault where a write fails or accepts none.
 fn send<W: Write>(writer: &mut W, bytes: &[u8]) -> Result<(), WireFault>
     ensures sends { Sends (W.contents writer.old) (W.contents writer.new) bytes.now result }
     ensures io { result ≢ Err WireFault.Memory }

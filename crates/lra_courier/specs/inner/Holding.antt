@@ -1,4 +1,4 @@
--- What the fields of a callback that is carried say.
+-- What the fields of a callback exchange mean.
 use Rattle.lra_wire.specs.Seen.{SeesResponse}
 use Rattle.lra_courier.specs.declared.carrying.Carrying.TheInside.{Inside}
 use Rattle.lra_courier.specs.Carried.{Carried, IsCarried}
@@ -15,7 +15,7 @@ carried_of c = record {
   came = c.came;
 }
 
--- what holds of all that was carried, and what was seen of the bytes that came
+-- what is true of all that was exchanged, and the findings on the bytes that came
 pub record Holds (c : Inside) : Type 0 where
   pub carried : IsCarried (carried_of c)
   pub sees : SeesResponse c.seen c.kept.items

@@ -1,4 +1,4 @@
--- What is found of the bytes behind a request.
+-- What is found in the bytes after a request.
 use Rattle.std.specs.Prelude.{◌≢◌, ℕ, ◌<◌, Bool, List, ◌++◌, length, Option, Some, None, Result, Ok, Err, IsFalse, ⊤}
 use Rattle.std.specs.declared.alloc.AllocError.{AllocError}
 use Rattle.lra_model.specs.declared.asks.AskKind.{AskKind}
@@ -18,13 +18,13 @@ TellsSoFar kind direction bytes (Ok (Some (Err fault))) = (fault ≢ Memory) × 
 TellsSoFar kind direction bytes (Ok None) = AwaitsResponse bytes × (length bytes < 1048576)
 TellsSoFar kind direction bytes (Err _) = ⊤
 
--- the same of a stream that ends with the bytes
+-- the same for a stream that ends with the bytes
 abbrev pub TellsAtEnd : AskKind → Direction → List ℕ → Result (Result Outcome WireFault) AllocError → Type 0
 TellsAtEnd kind direction bytes (Ok (Ok outcome)) = (rest : List ℕ) × IsReply kind direction bytes rest outcome
 TellsAtEnd kind direction bytes (Ok (Err fault)) = (fault ≢ Memory) × (fault ≢ Io) × RefusesResponse bytes fault
 TellsAtEnd kind direction bytes (Err _) = ⊤
 
--- what the bytes come to; or more bytes are wanted, and may come
+-- the result of the bytes; or more bytes are wanted, and may come
 abbrev pub Looks : Bool → Bool → AskKind → Direction → List ℕ → Result (Option (Result Outcome WireFault)) AllocError
     → Type 0
 Looks closed failed kind direction bytes (Ok (Some told)) = Replies closed failed kind direction bytes told

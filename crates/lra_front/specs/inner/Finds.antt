@@ -1,4 +1,4 @@
--- What is found by identifiers.
+-- What is found by an identifier.
 use Rattle.std.specs.Prelude.{◌≡◌, ◌⊎◌, ℕ, List, Bool, true, false, Result, Ok, Err}
 use Rattle.lra_ids.specs.Identifiers.{IsSpelling}
 use Rattle.lra_commands.specs.declared.refusal.Refusal.TheVariants as refusal
@@ -9,7 +9,7 @@ use Rattle.lra_front.specs.declared.denial.Denial.TheVariants.{Refused}
 use Rattle.lra_front.specs.declared.wish.Wish.{Wish}
 use Rattle.lra_front.specs.Bodies.{reads_body}
 
--- the number that a text is spelled from, or that there is none
+-- the number that a text spells, or that API error where it spells none
 abbrev pub IsFound : (ℕ → List ℕ) → List ℕ → Denial → Result ℕ Denial → Type 0
 IsFound spelled text none (Ok n) = IsSpelling spelled text n
 IsFound spelled text none (Err d) = ((n : ℕ) → ¬ (IsSpelling spelled text n)) × (d ≡ none)

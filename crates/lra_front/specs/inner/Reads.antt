@@ -1,4 +1,4 @@
--- What came of reading a body.
+-- The result of reading a body.
 use Rattle.std.specs.Prelude.{◌≡◌, ◌<◌, ◌⊎◌, ℕ, List, length, true, Option, None, IsSome, Result, Ok, Err}
 use Rattle.serde_json.specs.declared.value.Value.{Value}
 use Rattle.serde_json.specs.Data.{Members}
@@ -10,11 +10,11 @@ use Rattle.lra_front.specs.declared.denial.Denial.{Denial}
 use Rattle.lra_front.specs.declared.denial.Denial.TheVariants.{BadBody, Refused}
 use Rattle.lra_front.specs.Bodies.{object_in, body_of, reads_body}
 
--- memory was refused, in reading something
+-- the API error says that memory was refused in reading
 abbrev pub LacksMemory : List ℕ → Denial → Type 0
 LacksMemory body d = (d ≡ Refused refusal.Memory) × (0 < length body)
 
--- what a body's members came to
+-- the result of reading a body's members
 abbrev pub ReadsMembers : (Denial → Type 0) → Option Members → Result Value Denial → Type 0
 ReadsMembers Lacks members (Ok value) = (members ≡ as_object (view value)) × IsSome members
 ReadsMembers Lacks members (Err d) = Lacks d ⊎ ((d ≡ BadBody) × (members ≡ None))

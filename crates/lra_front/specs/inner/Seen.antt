@@ -1,4 +1,4 @@
--- What a reply is written from.
+-- The parts that a reply is written from.
 use Rattle.std.specs.Prelude.{◌≡◌, ℕ, List, length, decimal, string_bytes}
 use Rattle.serde_json.specs.Written.{compact_text}
 use Rattle.lra_front.specs.declared.answer.Answer.{Answer}

@@ -1,4 +1,4 @@
--- What goes out of replies.
+-- What is written of replies.
 use Rattle.std.specs.Prelude.{◌≡◌, ℕ, Bool, true, false, List, Option, Result}
 use Rattle.std.specs.Io.KnownBytes.{Appends}
 use Rattle.lra_wire.specs.declared.fault.WireFault.{WireFault}
@@ -16,13 +16,13 @@ use Rattle.lra_front.specs.declared.answer.Answer.{Answer}
 use Rattle.lra_front.specs.Serving.{Responds}
 use Rattle.lra_front.specs.Streams.{fault_text, closes_after, reply_to}
 
--- a fault is answered, and the stream ends by it or by the writer's
+-- a fault is answered, and the stream ends with it or with the writer's fault
 abbrev pub Denies : Sight → WireFault → Option (List ℕ) → Option (List ℕ) → StreamEnd → Type 0
 Denies v fault old new Done = ⊥
 Denies v fault old new (Refused f) = (f ≡ fault) × Appends old new (fault_text v fault)
 Denies v fault old new WriteFault = AppendsFront old new (fault_text v fault)
 
--- what went out of the reply to a request, and what becomes of the stream
+-- what was written of the reply to a request, and whether the stream goes on
 abbrev pub Sent : Sight → Bool → Request → Answer → Option (List ℕ) → Option (List ℕ) → Served → Type 0
 Sent v last request a old new Going = (closes_after last request ≡ false) × Appends old new (reply_to v last request a)
 Sent v last request a old new (Ended Done) = (closes_after last request ≡ true)

@@ -1,4 +1,4 @@
--- What can be told of what was asked.
+-- What a counter can return for an API request.
 use Rattle.std.specs.Prelude.{Result, Ok, Err, ⊤}
 use Rattle.lra_commands.specs.declared.command.Told.{Told}
 use Rattle.lra_commands.specs.declared.command.Told.TheVariants as told
@@ -7,7 +7,7 @@ use Rattle.lra_commands.specs.Counters.{IsIdentifiable}
 use Rattle.lra_front.specs.declared.wish.Wish.{Wish}
 use Rattle.lra_front.specs.declared.wish.Wish.TheVariants as wish
 
--- one kind of answer for each, with numbers that identifiers can have
+-- one kind of result for each API request, with numbers that identifiers can have
 abbrev pub IsTellable : Wish → Told → Type 0
 IsTellable (wish.Start parent limit) (told.Action n) = IsIdentifiable n
 IsTellable (wish.Join action uris) (told.Member n) = IsIdentifiable n

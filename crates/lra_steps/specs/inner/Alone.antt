@@ -1,4 +1,4 @@
--- A session that answers by itself keeps what its URIs begin with.
+-- A session that answers by itself keeps the base of its URIs.
 use Rattle.std.specs.Prelude.{◌≡◌, ℕ, Bool, List, Result, Ok, Err}
 use Rattle.std.proofs.Common.{ap}
 use Rattle.lra_wire.specs.Request.{Request}
@@ -12,11 +12,11 @@ use Rattle.lra_steps.specs.declared.responder.Answered.{Answered}
 use Rattle.lra_steps.specs.Positions.{AnswersOrdered}
 use Rattle.lra_steps.specs.Pieces.{AnswersAlone}
 
--- what the URIs of a session begin with
+-- the base of a session's URIs
 abbrev pub base_of_session : {C : Type 0} → (C → Sight) → C → List ℕ
 base_of_session sight session = (sight session).setting.base
 
--- what the front does where it isn't asked whether an order was given
+-- what the HTTP interface does, without saying whether an order was given
 pub responds_of : (gives : Sight → ℕ → Order → Result Told CounterFault → Sight → Type 0)
     (before after : Sight) (moment : ℕ) (request : Request) (answered : Answered)
     → AnswersOrdered gives before moment request answered after
@@ -43,7 +43,7 @@ session_stays sight covers gives keeps before after moment request answered h =
     ap (λ s. s.base) (setting_stays gives keeps (sight before) (sight after) moment request answered.answer
     (responds_of gives (sight before) (sight after) moment request answered h.ordered))
 
--- so does one that rests
+-- a session that rests keeps the base of its URIs
 pub rested_base : {C : Type 0} (sight : C → Sight) (before after : C) → after ≡ before → base_of_session sight after
     ≡ base_of_session sight before
 rested_base sight before after h = ap (base_of_session sight) h

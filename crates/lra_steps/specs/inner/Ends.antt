@@ -1,4 +1,4 @@
--- What is found of what a connection keeps, and how it ends where that is no whole request.
+-- What is found in the bytes that a connection keeps, and how it ends where they are no whole request.
 use Rattle.std.specs.Prelude.{◌≡◌, ℕ, ◌<◌, Bool, List, [], length, Option, Some, None, Result, Ok, Err, IsTrue, IsFalse}
 use Rattle.lra_wire.specs.declared.fault.WireFault.{WireFault}
 use Rattle.lra_wire.specs.declared.fault.WireFault.TheVariants.{Cut}
@@ -8,14 +8,14 @@ use Rattle.lra_wire.specs.Request.{RefusesRequest, AwaitsRequest}
 use Rattle.lra_front.specs.declared.stream.StreamEnd.{StreamEnd}
 use Rattle.lra_front.specs.declared.stream.StreamEnd.TheVariants.{Done, Refused, WriteFault}
 
--- a whole request, or more is wanted, or a fault
+-- a whole request, or that more bytes are wanted, or a fault
 abbrev pub Finds : Bool → List ℕ → Result (Option Front) WireFault → Type 0
 Finds closed kept (Ok (Some front)) = IsFront kept (Ok (Some front))
 Finds closed kept (Ok None) = (IsTrue closed → IsUnfinished kept) × (IsFalse closed → AwaitsRequest kept)
     × (length kept < 73728)
 Finds closed kept (Err fault) = RefusesFront kept fault
 
--- not while bytes may come; and then by what is kept
+-- how a connection ends: not while bytes may come, and after that by the bytes that are kept
 abbrev pub EndsWithout : Bool → List ℕ → Option StreamEnd → Type 0
 EndsWithout closed kept None = IsFalse closed
 EndsWithout closed kept (Some Done) = IsTrue closed × (kept ≡ [])

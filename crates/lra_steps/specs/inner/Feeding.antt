@@ -1,4 +1,4 @@
--- What a piece of bytes comes to where requests are answered.
+-- What feeding a piece of bytes does, where requests are answered.
 use Rattle.std.specs.Prelude.{◌≡◌, ℕ, List, [], ◌++◌, take, Option, Some, None, IsFalse}
 use Rattle.lra_wire.specs.Request.{Request}
 use Rattle.lra_front.specs.declared.stream.StreamEnd.{StreamEnd}
@@ -6,17 +6,17 @@ use Rattle.lra_steps.specs.declared.responder.Answered.{Answered}
 use Rattle.lra_steps.specs.History.{History}
 use Rattle.lra_steps.specs.Pieces.{Chain}
 
--- the piece was taken, or a front of it up to where the connection ended
+-- the piece was accepted, or a prefix of it up to where the connection ended
 abbrev pub TakesPiece : Option StreamEnd → List ℕ → List ℕ → List ℕ → Type 0
 TakesPiece None old new piece = new ≡ old ++ piece
 TakesPiece (Some end) old new piece = (count : ℕ) × (new ≡ old ++ take count piece)
 
--- the connection goes on, and more bytes may come; or it has ended so
+-- the connection goes on, and more bytes may come; or it has that end
 abbrev pub Comes : Option StreamEnd → History → Type 0
 Comes None h = IsFalse h.closed
 Comes (Some end) h = h.ended ≡ Some end
 
--- nothing has come yet
+-- nothing has come to the connection yet
 pub record IsFresh (own : List ℕ) (h : History) : Type 0 where
   pub turns : h.turns ≡ []
   pub none : h.stands ≡ None
@@ -27,13 +27,13 @@ pub record IsFresh (own : List ℕ) (h : History) : Type 0 where
 
 module _ {S K : Type 0} (base_of : S → List ℕ) (responds : S → ℕ → Request → Answered → S → Type 0)
     (tells : K → ℕ → K → Type 0) where
-  -- All requests of the connection that were answered were so, one after another, and none stands.
+  -- All requests that the connection answered were answered one after another as in a chain, and none stands.
   pub record Follows (v : S) (k : K) (h : History) (w : S) (l : K) : Type 0 where
     pub chain : Chain responds tells v k h.turns w l
     pub base : h.base ≡ base_of w
     pub none : h.stands ≡ None
 
-  -- a piece was taken, and what stood was answered
+  -- a piece was accepted, and the requests that stood were answered
   pub record Fed (end : Option StreamEnd) (piece : List ℕ) (v : S) (k : K) (old new : History) (w : S) (l : K) : Type 0
     where
       pub follows : Follows v k new w l

@@ -1,4 +1,4 @@
--- What the fields of a connection say.
+-- What the fields of a connection mean.
 use Rattle.std.specs.Prelude.{◌≡◌, ℕ, ◌-◌, List, map, take, drop, flat_map, length}
 use Rattle.std.specs.Option.{option_map}
 use Rattle.lra_wire.specs.declared.request.RequestRead.{RequestRead}
@@ -8,14 +8,14 @@ use Rattle.lra_steps.specs.declared.connection.Connection.TheInside.{Inside}
 use Rattle.lra_steps.specs.declared.connection.Reply.{Reply}
 use Rattle.lra_steps.specs.History.{History, Turn, IsServed}
 
--- what stood behind each place, and before it
+-- the bytes from each offset on, and below the bytes before it
 abbrev pub backs : List (List ℕ × ℕ) → List (List ℕ)
 backs marks = map (λ m. drop m.1 m.0) marks
 
 abbrev pub fronts : List (List ℕ × ℕ) → List (List ℕ)
 fronts marks = map (λ m. take m.1 m.0) marks
 
--- a request and what it was answered
+-- a request and its answer, as a turn
 abbrev pub turn_of : RequestRead × Reply → Turn
 turn_of pair = record { request = request_of pair.0; moment = pair.1.moment; answered = pair.1.answered }
 
@@ -33,8 +33,8 @@ history_of c = record {
   out = c.out;
 }
 
--- the history is served, what was seen is of what is kept, and as many requests are left, beside a last one, as are
--- counted
+-- what is true of the history holds, the findings are on the bytes that are kept, and `left` requests are left beside
+-- the last
 pub record Holds (c : Inside) : Type 0 where
   pub served : IsServed (history_of c)
   pub seen : Sees c.seen c.kept

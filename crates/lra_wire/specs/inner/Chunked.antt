@@ -16,7 +16,7 @@ use Rattle.lra_wire.specs.declared.chunks.Part.{Part}
 use Rattle.lra_wire.specs.declared.chunks.Part.TheVariants.{Content, Last, Open}
 use Rattle.lra_wire.specs.inner.Wanted.{IsOpenAt, LastsAt}
 
--- a chunk line begins the bytes, of that length and for so many bytes
+-- the bytes begin with a chunk line of that length, which states a chunk of that size
 pub record IsLineOf (bytes : List ℕ) (found : ℕ × ℕ) : Type 0 where
   pub line : ChunkLine
   pub reads : ReadsChunkLine bytes line (drop found.0 bytes)
@@ -30,7 +30,7 @@ FindsLine bytes (Ok (Some found)) = IsLineOf bytes found
 FindsLine bytes (Ok None) = HasNoChunkLine bytes × MayBecomeChunkLine bytes
 FindsLine bytes (Err fault) = (fault ≡ BadLength) × NeverHasChunkLine bytes
 
--- a trailer of that length begins the bytes
+-- the bytes begin with a trailer of that length
 pub record IsTrailerOf (bytes : List ℕ) (len : ℕ) : Type 0 where
   pub has : HasTrailer bytes (drop len bytes)
   pub within : len ≤ length bytes
@@ -41,11 +41,11 @@ FindsTrailer bytes (Ok (Some len)) = IsTrailerOf bytes len
 FindsTrailer bytes (Ok None) = HasNoSection bytes × MayBecomeSection bytes
 FindsTrailer bytes (Err fault) = (fault ≡ BadLength) × SectionOverflows 64 bytes
 
--- CRLF stands at the place
+-- CRLF stands at the offset
 abbrev pub has_line_end : List ℕ → ℕ → Bool
 has_line_end bytes at = slice_index bytes at == 13 && slice_index bytes (at + 1) == 10
 
--- the chunk at a place of the bytes, whose content lies between these places
+-- the chunk at an offset of the bytes, whose content lies between these offsets
 pub record IsPieceAt (place : ℕ) (bytes : List ℕ) (from to : ℕ) : Type 0 where
   pub chunk : Chunk
   pub valid : IsChunk chunk
@@ -57,7 +57,7 @@ abbrev pub OneMore : List ℕ → Result Wanted WireFault → Type 0
 OneMore bytes (Ok wanted) = (wanted ≡ Feed (length bytes)) × (length bytes < 1048576)
 OneMore bytes (Err fault) = (fault ≡ TooLarge) × (1048576 ≤ length bytes)
 
--- the trailer behind a place, up to where it ends
+-- the trailer from an offset on, and the offset at which it ends
 pub record IsTrailerTo (start end : ℕ) (bytes : List ℕ) : Type 0 where
   pub behind : start ≤ end
   pub within : end ≤ length bytes
@@ -72,7 +72,7 @@ FindsEnd start bytes (Ok (Open wanted)) = IsOpenAt HasNoSection start bytes want
 FindsEnd start bytes (Ok (Content from to)) = ⊥
 FindsEnd start bytes (Err fault) = LastsAt (RefusesTrailer start) start bytes fault
 
--- so many bytes behind a place and CRLF, or that more bytes are wanted, or why there are none
+-- so many bytes from an offset on and CRLF, or that more bytes are wanted, or why there are none
 abbrev pub FindsContent : ℕ → ℕ → ℕ → List ℕ → Result Part WireFault → Type 0
 FindsContent start room size bytes (Ok (Content from to)) = (from ≡ start) × (to ≡ start + size) × (size ≤ room)
     × (to + 2 ≤ length bytes) × (to + 2 ≤ 1048576)
@@ -82,7 +82,7 @@ FindsContent start room size bytes (Ok (Open wanted)) = (wanted ≡ Bytes (start
 FindsContent start room size bytes (Ok (Last end)) = ⊥
 FindsContent start room size bytes (Err fault) = LastsAt (RefusesContent start room size) start bytes fault
 
--- the chunk at a place, or the end of the body, or that more bytes are wanted for either, where the body has so much
+-- the chunk at an offset, or the end of the body, or that more bytes are wanted for either, where the body has so much
 -- room left
 abbrev pub FindsPart : ℕ → ℕ → List ℕ → Result Part WireFault → Type 0
 FindsPart start room bytes (Ok (Content from to)) = (start < from) × (from < to) × (to + 2 ≤ length bytes)
@@ -93,7 +93,7 @@ FindsPart start room bytes (Ok (Open wanted)) = IsOpenAt AwaitsChunk start bytes
     × RefusesChunk start room (drop start bytes) Cut
 FindsPart start room bytes (Err fault) = LastsAt (RefusesChunk start room) start bytes fault
 
--- the chunks from a place of the bytes up to another, and the body that they make up
+-- the chunks between two offsets of the bytes, and the body that they make up
 pub record Joined (bytes : List ℕ) (start at : ℕ) (body : List ℕ) : Type 0 where
   pub chunks : List Chunk
   pub has : HasChunks (drop start bytes) chunks (drop at bytes)
@@ -107,6 +107,6 @@ pub record ChunksTo (bytes : List ℕ) (start at : ℕ) (body : List ℕ) : Type
   pub room : length body ≤ 65536
   pub so_far : Joined bytes start at body
 
--- the chunks that were read stand there
+-- the bytes have the chunks that were read
 abbrev pub HasRead : List ℕ → ChunksRead → Type 0
 HasRead bytes read = ChunksTo bytes read.start read.end read.body.items

@@ -1,4 +1,4 @@
--- What a search for a request's head finds at the front of the bytes that came so far.
+-- What a search for a request's head finds in the bytes that came so far.
 use Rattle.std.specs.Prelude.{◌≡◌, ℕ, ◌<◌, Bool, ◌==◌, List, length, Option, Some, None, Result, Ok, Err, [], ◌||◌}
 use Rattle.std.specs.Prelude.{take, map, codes}
 use Rattle.httparse.specs.Grammar.{RequestHead, HasNoRequest, MayBecomeRequest}
@@ -14,7 +14,7 @@ use Rattle.lra_wire.specs.Request.{Request, told_by, IsLawful, NeverLawful}
 abbrev pub has_host : ℕ → List (List ℕ × List ℕ) → Bool
 has_host minor fields = (minor == 0) || (length (values_of (codes "host") fields) == 1)
 
--- a lawful head, and the places of its parts
+-- a valid head, and the spans of its parts
 pub record IsHeadAt (bytes : List ℕ) (headers : List HeaderSpan) (spans : RequestSpans) : Type 0 where
   pub within : IsRequestWithin bytes headers spans
   pub head : RequestHead
@@ -27,7 +27,7 @@ FindsHead bytes headers (Ok (Some spans)) = IsHeadAt bytes headers spans
 FindsHead bytes headers (Ok None) = HasNoRequest bytes × MayBecomeRequest bytes × (length bytes < 8192)
 FindsHead bytes headers (Err fault) = (fault ≡ BadHead) × NeverLawful bytes
 
--- the parts at the places that the spans give, and no body yet
+-- the parts that the spans give, and no body yet
 abbrev pub request_at : List ℕ → List HeaderSpan → RequestSpans → Request
 request_at bytes headers spans = record {
   method = span_bytes bytes spans.method;

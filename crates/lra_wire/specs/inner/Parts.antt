@@ -20,7 +20,7 @@ use Rattle.lra_wire.specs.declared.wanted.BodyFront.TheVariants as body
 use Rattle.lra_wire.specs.inner.Wanted.{IsOpenAt, LastsAt}
 use Rattle.lra_wire.specs.inner.Chunked.{HasRead}
 
--- a head within the limits begins the bytes, and what it says
+-- the bytes begin with a head within the limits, and these are its values
 pub record IsHeadOf (bytes : List ℕ) (found : Head) : Type 0 where
   pub head : ResponseHead
   pub has : HasResponse bytes head (drop found.len bytes)
@@ -35,30 +35,30 @@ FindsResponse bytes (Ok (Some found)) = IsHeadOf bytes found
 FindsResponse bytes (Ok None) = HasNoResponse bytes × MayBecomeResponse bytes × (length bytes < 8192)
 FindsResponse bytes (Err fault) = (fault ≡ BadHead) × NeverShort bytes
 
--- interim heads up to a place of the bytes
+-- the bytes begin with so many interim heads, up to an offset
 pub record SkipsTo (bytes : List ℕ) (start count : ℕ) : Type 0 where
   pub heads : List ResponseHead
   pub skips : Skips bytes heads (drop start bytes)
   pub counted : length heads ≡ count
 
--- so many of them, each within its limit, were read up to that place
+-- so many interim heads, each within its limit, were read up to that offset
 pub record Heads (bytes : List ℕ) (start interim : ℕ) : Type 0 where
   pub within : start ≤ length bytes
   pub place : start ≤ interim * 8192
   pub few : interim ≤ 8
   pub so_far : SkipsTo bytes start interim
 
--- the interim heads that were read stand there
+-- the bytes begin with the interim heads that were read
 abbrev pub Passes : List ℕ → Passed → Type 0
 Passes bytes passed = Heads bytes passed.end passed.count
 
--- how many bytes there may be where a line isn't whole: those of the interim heads and one more, or of the largest
--- response
+-- the number of bytes at which a line that isn't whole is too long: those of the interim heads and one more head, or of
+-- the largest response
 abbrev pub most_bytes : Option Head → Passed → ℕ
 most_bytes None passed = passed.end + 8192
 most_bytes (Some head) passed = 1048576
 
--- interim heads and a final one, of which it is told what it says and where it ends
+-- interim heads and a final one: its values, and the offset at which it ends
 pub record IsFinalOf (bytes : List ℕ) (found : Head) : Type 0 where
   pub head : ResponseHead
   pub within : found.len ≤ length bytes
@@ -67,7 +67,7 @@ pub record IsFinalOf (bytes : List ℕ) (found : Head) : Type 0 where
   pub framing : found.framing ≡ framing_of (status_code head) (fields_in head)
   pub final : (more : List ℕ) → HasFinal (bytes ++ more) head (drop found.len (bytes ++ more))
 
--- a final head, or a head that more bytes may complete behind the interim ones, or none whatever follows
+-- a final head, or after the interim ones a head that more bytes may complete, or none whatever follows
 abbrev pub FindsFinal : ℕ → List ℕ → Result (Option Head) WireFault → Type 0
 FindsFinal start bytes (Ok (Some found)) = IsFinalOf bytes found
 FindsFinal start bytes (Ok None) = HasNoResponse (drop start bytes) × MayBecomeResponse (drop start bytes)
@@ -81,8 +81,8 @@ FindsHead seen bytes (Ok None) = (seen ≡ None) × IsOpenAt AwaitsResponse 0 by
     × EndsInResponse bytes
 FindsHead seen bytes (Err fault) = Lasts RefusesResponse bytes fault
 
--- What stands behind the interim heads: the final head, and the chunks behind it that were read; or no final head was
--- read, and nothing of a body.
+-- What was read after the interim heads: the final head and the chunks after it, or neither a final head nor anything
+-- of a body.
 abbrev pub SeesBody : Option Head → ChunksRead → List ℕ → Type 0
 SeesBody None read bytes = read.body.items ≡ []
 SeesBody (Some head) read bytes = IsFinalOf bytes head × (read.start ≡ head.len) × HasRead bytes read
@@ -93,27 +93,27 @@ IsSmall (Sized n) = n ≤ 65536
 IsSmall Chunks = ⊤
 IsSmall ToTheEnd = ⊤
 
--- a whole body, and where it ends
+-- a whole body, and the offset at which it ends
 pub record IsBodyTo (framing : Framing) (start : ℕ) (bytes body : List ℕ) (end : ℕ) : Type 0 where
   pub behind : start ≤ end
   pub within : end ≤ length bytes
   pub bound : end ≤ 1048576
   pub there : (more : List ℕ) → IsBody framing (drop start (bytes ++ more)) body (drop end (bytes ++ more))
 
--- what the body of that framing comes to where the stream ends with these bytes: it is cut, or ends with them
+-- a body of that framing, where the stream ends with these bytes: it is cut, or ends with them
 abbrev pub EndsBody : Framing → ℕ → List ℕ → Type 0
 EndsBody (Sized n) start bytes = RefusesFramed (Sized n) start (drop start bytes) Cut
 EndsBody Chunks start bytes = RefusesFramed Chunks start (drop start bytes) Cut
 EndsBody ToTheEnd start bytes = length bytes ≤ start + 65536
 
--- the body behind a place, or that more bytes are wanted, and what it comes to without them, or why there is none
+-- the body from an offset on; or that more bytes are wanted, and what the body is without them; or why there is none
 abbrev pub FindsBodyFront : Framing → ℕ → List ℕ → Result BodyFront WireFault → Type 0
 FindsBodyFront framing start bytes (Ok (body.Whole content end)) = IsBodyTo framing start bytes content.items end
 FindsBodyFront framing start bytes (Ok (body.Open wanted)) = IsOpenAt (AwaitsBody framing) start bytes wanted
     × EndsBody framing start bytes
 FindsBodyFront framing start bytes (Err fault) = LastsAt (RefusesFramed framing start) start bytes fault
 
--- a final head is open where the stream ends with these bytes, or the body behind one
+-- where the stream ends with these bytes, the final head isn't whole, or the body after it
 abbrev pub EndsOpen : Option Head → List ℕ → Type 0
 EndsOpen None bytes = EndsInResponse bytes
 EndsOpen (Some head) bytes = (framing : Framing) × (head.framing ≡ Ok framing) × EndsBody framing head.len bytes

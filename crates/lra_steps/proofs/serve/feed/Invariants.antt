@@ -2,7 +2,7 @@ use Rattle.std.proofs.Common.{◌≡◌, ◌+◌, ◌-◌, ◌*◌, ◌≤◌, �
 use Rattle.lra_steps.specs.inner.Feeding.{Follows}
 use Rattle.lra_steps.proofs.serve.feed.Given as goal
 
--- that much of the piece was taken, and what stood was answered
+-- that much of the piece was accepted, and the requests that stood were answered
 abbrev pub invariant-loop-alloc : goal.invariant-loop-alloc
 invariant-loop-alloc g l =
     let sight = g.A.Responder.sight in

@@ -2,7 +2,7 @@ use Rattle.std.proofs.Common.{◌≡◌, ◌++◌, take, flat_map, IsFalse}
 use Rattle.lra_steps.specs.inner.Feeding.{Follows}
 use Rattle.lra_steps.proofs.serve.serve_through.Given as goal
 
--- the pieces so far were taken, and what was replied was handed out
+-- the pieces so far were accepted, and what was replied was sent
 abbrev pub invariant-loop-piece : goal.invariant-loop-piece
 invariant-loop-piece g l = record {
   follows : Follows g.A.Responder.base_of g.A.Responder.responds g.K.Clock.tells (g.A.Responder.sight l.fn.responder)
