@@ -14,7 +14,7 @@ holds : (all text : List ℕ) (r : Result Keys KeysFault) → text ≡ all → l
 holds all text (Ok keys) is few h = (few, subst (λ t. digests_in t ≡ Ok (digests_of keys)) is h)
 holds all text (Err f) is few h = tt
 
--- what was read of a file is what it holds
+-- a file holds what was read of it
 pub held : (o : Option (List ℕ)) (text : List ℕ) (r : Result Keys KeysFault)
     → IfSome o (λ all. IsWhole longest all text)
     → IfOk r (λ keys. digests_in text ≡ Ok (digests_of keys)) → IfSome o (λ all. IfOk r (Holds all))
@@ -33,7 +33,7 @@ none_of : (all text : List ℕ) (r : Result Keys KeysFault) → text ≡ all →
 none_of all text (Ok keys) is h = tt
 none_of all text (Err f) is h = holds_none all f (subst (λ t. IsWrong t f) is h)
 
--- why it holds none is what was found
+-- the fault that was found is why the file holds no keys
 pub none_held : (o : Option (List ℕ)) (text : List ℕ) (r : Result Keys KeysFault)
     → IfSome o (λ all. IsWhole longest all text)
     → IfErr r (IsWrong text) → IfSome o (λ all. IfErr r (HoldsNone all))

@@ -1,4 +1,4 @@
--- Which requests are let in.
+-- The requests that are let in.
 use Rattle.std.specs.Prelude.{ℕ, ◌==◌, Bool, true, false, not, if◌then◌else◌, List, length, Option, Some, None}
 use Rattle.std.specs.Prelude.{option_map, option_and_then}
 use Rattle.std.specs.Option.{option_map_or}
@@ -9,12 +9,12 @@ use Rattle.lra_admission.specs.declared.latest.Admission.{Admission}
 use Rattle.lra_admission.specs.Keys.{digests_of, is_known, secret_in}
 use Rattle.lra_admission.specs.Names.{is_own_host, is_own_origin}
 
--- what is in force: the digests of the keys, if keys are asked for, and the names of hosts, if there are any
+-- the rules in force: the digests of the keys, if keys are asked for, and the names of hosts, if there are any
 pub record Rules : Type 0 where
   pub keys : Option (List (List ℕ))
   pub names : List (List ℕ)
 
--- the same, as it lies in memory
+-- the same, for the rules in memory
 abbrev pub rules_of : Admission → Rules
 rules_of admission = record {
   keys = option_map (λ keys. digests_of keys.now) admission.keys;
@@ -39,8 +39,8 @@ has_host names host = option_map_or (is_own_host names) host false
 abbrev pub has_origin : List (List ℕ) → Option (List ℕ) → Bool
 has_origin names origin = option_map_or (is_own_origin names) origin true
 
--- why a request with these fields isn't let in, where it isn't (this project's choice): first its key is looked at,
--- then, where there are names, its host and its origin
+-- why a request with these fields isn't let in, if it isn't (this project's choice): first its key is checked, then, if
+-- there are names, its host and its origin
 abbrev pub denial_of : Rules → Fields → Option Denial
 denial_of rules fields =
     if lacks_key rules.keys fields.authorization then Some denial.WrongKey

@@ -9,11 +9,11 @@ use Rattle.lra_admission.specs.declared.fault.KeysFault.{KeysFault}
 use Rattle.lra_admission.specs.declared.fault.KeysFault.TheVariants as fault
 use Rattle.lra_admission.specs.Lines.{digests_in}
 
--- the digests that keys are
+-- the digests of keys
 abbrev pub digests_of : Keys → List (List ℕ)
 digests_of keys = keys.digests.items
 
--- someone has this secret: its SHA-256 (FIPS 180-4) is one of the digests
+-- this secret is known: its SHA-256 (FIPS 180-4) is one of the digests
 abbrev pub is_known : List (List ℕ) → List ℕ → Bool
 is_known digests secret = list_any (λ digest. bytes_eq digest (sha256 secret)) digests
 
@@ -21,7 +21,7 @@ is_known digests secret = list_any (λ digest. bytes_eq digest (sha256 secret)) 
 abbrev pub secret_in : List ℕ → Option (List ℕ)
 secret_in value = if str_eq_ignore_ascii_case (take 7 value) (codes "bearer ") then Some (drop 7 value) else None
 
--- why no keys are read of a text: that line is wrong, the first that is, or memory is refused
+-- why no keys are read of a text: this line is wrong, the first such line, or memory is refused
 abbrev pub IsWrong : List ℕ → KeysFault → Type 0
 IsWrong text (fault.Line number) = digests_in text ≡ Err number
 IsWrong text fault.Memory = ⊤

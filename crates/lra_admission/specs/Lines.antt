@@ -23,7 +23,7 @@ abbrev pub is_remark : List ℕ → Bool
 is_remark [] = true
 is_remark (b ∷ rest) = b == 35
 
--- what follows the spaces in front
+-- what follows the leading spaces
 abbrev pub skip_spaces : List ℕ → List ℕ
 skip_spaces [] = []
 skip_spaces (b ∷ rest) = if is_space b then skip_spaces rest else b ∷ rest
@@ -38,12 +38,12 @@ abbrev pub begins_with_space : List ℕ → Bool
 begins_with_space [] = false
 begins_with_space (b ∷ rest) = is_space b
 
--- the digest that a line names, where it is a name, spaces and 64 hexadecimal digits
+-- the digest that a line names, if it is a name, spaces and 64 hexadecimal digits
 abbrev pub digest_in : List ℕ → Option (List ℕ)
 digest_in line = if begins_with_space line then None else result_ok (decode_sized (skip_spaces (skip_name line)) 32)
 
--- the digests before a line of some number, and those that it and the lines behind it name; or the number of the first
--- that says something and names none
+-- the digests before a line of some number, and those that it and the lines after it name; or the number of the first
+-- line that says something and names none
 unfoldable pub digests_from : List (List ℕ) → ℕ → List (List ℕ) → Result (List (List ℕ)) ℕ
 digests_from before number [] = Ok before
 digests_from before number (line ∷ lines) =

@@ -38,7 +38,7 @@ is_any_port (b ∷ rest) = b == 58 && list_all is_ascii_digit rest
 abbrev pub is_closing : ℕ → Bool
 is_closing b = b == 93
 
--- a byte of a name, behind the bracket that may begin it: a letter, a digit, or one of - . _ : ]
+-- a byte of a name, after the bracket that may begin it: a letter, a digit, or one of - . _ : ]
 abbrev pub is_name_byte : ℕ → Bool
 is_name_byte b = is_ascii_alphanumeric b || b == 45 || b == 46 || b == 95 || b == 58 || is_closing b
 
@@ -63,7 +63,7 @@ is_spelled text = list_all is_name_byte (behind_opening text) && is_closed text
 abbrev pub is_name : List ℕ → Bool
 is_name text = is_spelled text && nat_lt (length (behind_host text)) (length text) && is_own_port (behind_host text)
 
--- what may follow a name: where it has a port nothing, else any port
+-- what may follow a name: nothing if it has a port, else any port
 abbrev pub may_follow : List ℕ → List ℕ → Bool
 may_follow name rest = if length (behind_host name) == 0 then is_any_port rest else length rest == 0
 
@@ -78,7 +78,7 @@ is_own_host names host = list_any (λ name. is_named name host) names
 
 -- ---- origins (RFC 6454, section 6.2)
 
--- a byte of a scheme behind its first
+-- a byte of a scheme after its first
 abbrev pub is_scheme_byte : ℕ → Bool
 is_scheme_byte b = is_ascii_alphanumeric b || b == 43 || b == 45 || b == 46
 

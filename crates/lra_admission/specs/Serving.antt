@@ -1,4 +1,4 @@
--- A responder that is asked only what is let in.
+-- Handler that gets only the requests that are let in.
 use Rattle.std.specs.Prelude.{◌≡◌, ℕ, is_some, None, MatchOption}
 use Rattle.lra_wire.specs.Request.{Request}
 use Rattle.lra_front.specs.declared.denial.Denial.{Denial}
@@ -6,19 +6,19 @@ use Rattle.lra_front.specs.declared.answer.Answer.TheVariants as answer
 use Rattle.lra_steps.specs.declared.responder.Answered.{Answered}
 use Rattle.lra_admission.specs.Admitting.{Rules, denial_of}
 
--- state of the responder, and the keys and names in force
+-- the handler's state, and the keys and names in force
 pub record Guard (S : Type 0) : Type 0 where
   pub inner : S
   pub rules : Rules
 
--- it is answered why, and nothing was done, so that the answer waits for nothing
+-- the request is answered with the API error, and nothing was done, so that the answer waits for no sync
 pub record Denies {S : Type 0} (before : S) (answered : Answered) (after : S) (d : Denial) : Type 0 where
   pub answer : answered.answer ≡ answer.Denied d
   pub position : answered.position ≡ None
   pub unchanged : after ≡ before
 
--- What a request at a moment does. First it is looked what is in force from then on; by that it is let in, and does
--- what it does without a guard, or it is denied.
+-- What a request at a moment does. First the rules in force from then on are checked. By these the request is let in,
+-- and does what it does without a guard, or it is denied.
 pub record Responds {S : Type 0} (looks : Rules → Rules → Type 0) (responds : S → ℕ → Request → Answered → S → Type 0)
     (before : Guard S) (moment : ℕ) (request : Request) (answered : Answered) (after : Guard S) : Type 0 where
   pub looked : looks before.rules after.rules
@@ -26,13 +26,13 @@ pub record Responds {S : Type 0} (looks : Rules → Rules → Type 0) (responds 
       (responds before.inner moment request answered after.inner)
       (Denies before.inner answered after.inner)
 
--- a rest is that of the responder; what is in force stays
+-- a rest is that of the handler; the rules stay in force
 pub record Rests {S : Type 0} (rests : S → S → Type 0) (before after : Guard S) : Type 0 where
   pub inner : rests before.inner after.inner
   pub rules : after.rules ≡ before.rules
 
--- a look at the file of the keys: other keys may be in force after it, but keys go on to be asked for where they were,
--- and the names stay
+-- a check of the file of the keys: other keys may be in force after it, but keys are still asked for if they were, and
+-- the names stay
 pub record RenewsKeys (before after : Rules) : Type 0 where
   pub asked : is_some after.keys ≡ is_some before.keys
   pub names : after.names ≡ before.names

@@ -11,37 +11,37 @@ use std::alloc::Global;
 use std::sync::atomic::{AtomicU64, Ordering};
 use std::sync::{Arc, Mutex, Wait};
 
-/// The number of milliseconds that pass at least from one look at the file to the next.
+/// Least number of milliseconds from one check of the file to the next.
 const PAUSE: u64 = 1_000;
 
-/// Returns from when on the file is looked at again, after a look at a moment.
+/// Returns the moment from which on the file is checked again, after a check at a moment.
 fn next_look(moment: u64) -> u64
     ensures { result ≡ min (moment + 1_000) (2 ^ 64 - 1) }
 {
     moment.saturating_add(PAUSE)
 }
 
-/// The keys that are in force.
+/// Keys that are in force.
 #[derive(Drop)]
 struct Kept {
     keys: Arc<Keys>,
-    /// The file of which it is known what it has.
+    /// Fingerprint of the file whose keys, or whose fault, are known.
     seen: Option<Print>,
 }
 
-/// Keys of a file, which all connection workers share: they are read again where the file changes.
+/// Keys of a file, which all connection workers share: they are read again once the file changes.
 #[derive(Drop)]
 pub struct KeyBook {
     alloc: Global,
     path: String,
     kept: Mutex<Kept>,
-    /// Changes whenever other keys come into force.
+    /// Number that changes whenever other keys come into force.
     version: AtomicU64,
-    /// From which moment on the file is looked at again.
+    /// Moment from which on the file is checked again.
     next: AtomicU64,
 }
 
-/// Keys that are shared from now on.
+/// Makes keys shared.
 fn shared(alloc: Global, keys: Keys) -> Result<Arc<Keys>, KeysFault> {
     match Arc::new(alloc, keys) {
         Ok(keys) => Ok(keys),
@@ -52,7 +52,7 @@ fn shared(alloc: Global, keys: Keys) -> Result<Arc<Keys>, KeysFault> {
     }
 }
 
-/// The keys of the file of a name, where its print says that it is one.
+/// Reads the keys of the file of a name, if its fingerprint shows that there is such a file.
 fn read_at<R: KeyFiles>(
     rt: &R,
     alloc: Global,
@@ -66,7 +66,8 @@ fn read_at<R: KeyFiles>(
 }
 
 impl Kept {
-    /// Takes what a file that has changed was found to have. Where memory was refused it is read once more.
+    /// Records what was read of a file that has changed. If memory was refused, the file is read once more at the next
+    /// check.
     fn take(
         &mut self,
         seen: Option<Print>,
@@ -88,7 +89,7 @@ impl Kept {
 }
 
 impl KeyBook {
-    /// That of the file of a name, which nobody but its owner may read or write.
+    /// Reads the keys of the file of a name, which nobody but its owner may read or write.
     pub fn open<R: KeyFiles>(rt: &R, alloc: Global, path: &str) -> Result<KeyBook, KeysFault>
         ensures { IfOk result (λ book. string_bytes book.path ≡ path.now) }
     {
@@ -104,24 +105,25 @@ impl KeyBook {
         })
     }
 
-    /// The name of the file.
+    /// Returns the name of the file.
     pub fn path(&self) -> &str
         ensures { result.now ≡ string_bytes self.now.path }
     {
         self.path.as_str()
     }
 
-    /// Changes whenever other keys come into force.
+    /// Returns a number that changes whenever other keys come into force.
     pub(crate) fn version(&self) -> u64 {
         self.version.load(Ordering::SeqCst)
     }
 
-    /// The keys that are in force.
+    /// Returns the keys that are in force.
     pub(crate) fn keys<R: Wait>(&self, rt: &R) -> Result<Arc<Keys>, Memory> {
         Arc::try_clone(&self.kept.lock(rt).keys)
     }
 
-    /// Reads the file again, where it has changed since it was read last. The answer is what became of it then.
+    /// Reads the file again if it has changed since it was read last, and returns the outcome of that. Returns nothing
+    /// if it hasn't changed, or another thread checks it.
     fn renew<R: KeyFiles>(&self, rt: &R, moment: u64) -> Option<Result<(), KeysFault>> {
         let mut kept = self.kept.try_lock()?;
         self.next.store(next_look(moment), Ordering::SeqCst);
@@ -133,9 +135,9 @@ impl KeyBook {
         Some(kept.take(seen, read_at(rt, self.alloc, path, &seen)))
     }
 
-    /// Looks at the file at a moment, in milliseconds, unless that was done less than a second before, and reads it
-    /// again where it has changed. Keys that are wrong then, or that others may read, leave those in force that are.
-    /// While one looks the others go on.
+    /// Checks the file at a moment, in milliseconds, unless it was checked less than a second before, and reads it
+    /// again if it has changed. If the keys are wrong then, or others may read the file, the present keys stay in
+    /// force. While one thread checks the file, the others go on.
     pub(crate) fn look<R: KeyFiles, H: Renewed>(&self, rt: &R, moment: u64, herald: &H) {
         if moment < self.next.load(Ordering::SeqCst) {
             return;

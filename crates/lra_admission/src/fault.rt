@@ -1,19 +1,19 @@
-//! Why there are no keys.
+//! Reasons why there are no keys.
 
 use std::alloc::AllocError;
 
-/// Why there are no keys, or no new ones.
+/// Reason why there are no keys, or no new ones.
 #[derive(Clone, Copy, Debug, PartialEq, Eq)]
 pub enum KeysFault {
     /// The file can't be read.
     File,
     /// Others than its owner may read the file.
     Shared,
-    /// The file has more bytes than are read of one.
+    /// The file is longer than the largest that is read.
     TooLong,
     /// The line of this number is no name and digest; the first is 1.
     Line(u64),
-    /// There is no memory.
+    /// Memory was refused.
     Memory,
 }
 

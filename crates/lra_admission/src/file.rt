@@ -13,27 +13,27 @@ use std::io::Read;
 use std::os::unix::fs::MetadataExt;
 use std::rt::Files;
 
-/// The most bytes that the file has.
+/// Largest number of bytes that the file may have.
 const LONGEST: u32 = 65_536;
 
-/// By which it is known that the file of a name is another, or has changed.
+/// Fingerprint of a file, which shows that the file of a name is another, or has changed.
 #[derive(Clone, Copy, Debug, PartialEq, Eq)]
 pub struct Print {
     pub device: u64,
     pub node: u64,
     pub length: u64,
-    /// When it, or what is told of it, was changed last.
+    /// Time of the last change of the file or of its metadata.
     pub seconds: i64,
     pub nanoseconds: i64,
 }
 
-/// A source of files in which keys stand: every runtime with the system's files. It names no other type, so that
-/// threads may share it.
+/// Source of files of keys: every runtime with the system's files. It names no other type, so that threads may share
+/// it.
 pub trait KeyFiles {
-    /// By which it is known whether the file of a name changes, where the name stands for a file.
+    /// Returns the fingerprint of the file of a name, if there is such a file.
     fn print(&self, path: &str) -> Option<Print>;
 
-    /// The keys of a file, which nobody but its owner may read or write.
+    /// Reads the keys of a file, which nobody but its owner may read or write.
     fn read_keys(&self, alloc: Global, path: &str) -> Result<Keys, KeysFault>;
 }
 
@@ -63,7 +63,7 @@ impl<R: Files<File = File>> KeyFiles for R {
     }
 }
 
-/// The keys that a reader has, all to its end.
+/// Reads the keys of a file to its end.
 pub(crate) fn keys_from<F: Read + Drop>(alloc: Global, file: F) -> Result<Keys, KeysFault>
     ensures ok { IfSome (F.remaining file) (λ text. IfOk result (spec.Holds text)) }
     ensures err { IfSome (F.remaining file) (λ text. IfErr result (spec.HoldsNone text)) }

@@ -1,4 +1,4 @@
-//! A responder that is asked only what is let in.
+//! A filter that passes on to a handler only the requests that are let in.
 
 ghost use Rattle.std.specs.Prelude.{◌≡◌};
 
@@ -10,8 +10,8 @@ use lra_steps::{Answered, Responder};
 use lra_wire::RequestRead;
 use std::alloc::Global;
 
-/// A responder that is asked only what is let in, a source of what is in force, and a listener for what is denied. It
-/// can't be dropped, but gives back the responder.
+/// Filter that passes on to a handler only the requests that are let in, with a source of the rules that are in force,
+/// and a notifier of denied requests. It can't be dropped, but returns the handler.
 pub struct Guarded<A: Responder, L: Latest, H: Refused> {
     inner: A,
     latest: L,
@@ -19,7 +19,7 @@ pub struct Guarded<A: Responder, L: Latest, H: Refused> {
 }
 
 impl<A: Responder, L: Latest + Drop, H: Refused + Drop> Guarded<A, L, H> {
-    /// Adds keys and names to a responder.
+    /// Puts a filter round a handler.
     pub fn new(inner: A, latest: L, herald: H) -> Guarded<A, L, H>
         ensures inner { result.inner ≡ inner }
         ensures latest { result.latest ≡ latest }
@@ -31,7 +31,7 @@ impl<A: Responder, L: Latest + Drop, H: Refused + Drop> Guarded<A, L, H> {
         }
     }
 
-    /// Returns the responder.
+    /// Returns the handler.
     pub fn into_inner(self) -> A
         ensures { result ≡ self.inner }
     {

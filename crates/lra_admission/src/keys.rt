@@ -12,7 +12,7 @@ use lra_model::Memory;
 use sha2::{Digest, Sha256};
 use std::alloc::Global;
 
-/// The beginning of a value of `Authorization` that gives a secret.
+/// Beginning of a value of `Authorization` that gives a secret.
 const SCHEME: &[u8] = b"bearer ";
 
 /// Keys that requests have to give: the digests of their secrets.
@@ -21,7 +21,7 @@ pub struct Keys {
     digests: Vec<[u8; DIGEST]>,
 }
 
-/// Returns whether two digests are one, in a time that doesn't go with where they differ.
+/// Returns whether two digests are the same, in a time that doesn't depend on where they differ.
 fn is_same(one: &[u8; DIGEST], other: &[u8; DIGEST]) -> bool
     ensures { result ≡ bytes_eq one.now other.now }
 {
@@ -32,7 +32,7 @@ fn is_same(one: &[u8; DIGEST], other: &[u8; DIGEST]) -> bool
     is_same
 }
 
-/// Returns whether a digest is one of several, in a time that doesn't go with which it is.
+/// Returns whether a digest is one of several, in a time that doesn't depend on which it is.
 fn is_among(digest: &[u8; DIGEST], digests: &[[u8; DIGEST]]) -> bool
     ensures { result ≡ list_any (λ own. bytes_eq own digest.now) digests.now }
 {
@@ -43,7 +43,7 @@ fn is_among(digest: &[u8; DIGEST], digests: &[[u8; DIGEST]]) -> bool
     is_among
 }
 
-/// Puts one more digest behind others.
+/// Appends a digest to others.
 fn put(digests: &mut Vec<[u8; DIGEST]>, digest: [u8; DIGEST]) -> Result<(), Memory>
     ensures { OnOk result (digests.new.items ≡ digests.old.items ++ digest ∷ []) }
 {
@@ -51,7 +51,7 @@ fn put(digests: &mut Vec<[u8; DIGEST]>, digest: [u8; DIGEST]) -> Result<(), Memo
     Ok(())
 }
 
-/// Puts the digest that a line of this number names behind others, where it says something.
+/// Appends the digest that a line of this number names to others, unless the line says nothing.
 #[tactic(auto, unfolding(crate::specs::Lines::digests_from))]
 fn take_line(digests: &mut Vec<[u8; DIGEST]>, line: &[u8], number: u64) -> Result<(), KeysFault>
     ensures ok { OnOk result (Takes digests.old.items digests.new.items number line.now) }
@@ -66,7 +66,7 @@ fn take_line(digests: &mut Vec<[u8; DIGEST]>, line: &[u8], number: u64) -> Resul
     }
 }
 
-/// The digests that a text names.
+/// Returns the digests that a text names.
 #[tactic(auto, unfolding(crate::specs::Lines::digests_from))]
 fn digests_in(alloc: Global, text: &[u8]) -> Result<Vec<[u8; DIGEST]>, KeysFault>
     ensures ok { IfOk result (λ digests. lines.digests_in text.now ≡ Ok digests.items) }
@@ -84,7 +84,7 @@ fn digests_in(alloc: Global, text: &[u8]) -> Result<Vec<[u8; DIGEST]>, KeysFault
     Ok(digests)
 }
 
-/// The secret that a value of `Authorization` gives.
+/// Returns the secret that a value of `Authorization` gives.
 pub(crate) fn secret_in(value: &[u8]) -> Option<&[u8]>
     ensures { option_map (λ secret. secret.now) result ≡ spec.secret_in value.now }
 {
@@ -101,8 +101,8 @@ impl Keys {
     ghost use Rattle.lra_admission.specs.Lines.{digests_in};
     ghost use Rattle.lra_admission.specs.Keys.{digests_of, is_known, IsWrong};
 
-    /// The keys of a file with this text: each line is a name, spaces and the SHA-256 of a secret in 64 hexadecimal
-    /// digits, or is empty or begins with `#`.
+    /// Reads the keys of a file with this text: each line is a name, spaces and the SHA-256 of a secret in 64
+    /// hexadecimal digits, or is empty or begins with `#`.
     pub fn read(alloc: Global, text: &[u8]) -> Result<Keys, KeysFault>
         ensures ok { IfOk result (λ keys. digests_in text.now ≡ Ok (digests_of keys)) }
         ensures err { IfErr result (IsWrong text.now) }
@@ -111,7 +111,7 @@ impl Keys {
         Ok(Keys { digests })
     }
 
-    /// Returns whether one of the keys is of this secret, in a time that tells nothing of which it is, nor how near the
+    /// Returns whether one of the keys is of this secret, in a time that reveals neither which it is, nor how near the
     /// secret comes.
     pub fn admits(&self, secret: &[u8]) -> bool
         ensures { result ≡ is_known (digests_of self.now) secret.now }

@@ -1,4 +1,4 @@
-//! The rules that are in force, and the source that tells them.
+//! The rules that are in force, and the source that reports them.
 
 ghost use Rattle.std.specs.Prelude.{◌≡◌, option_map};
 ghost use Rattle.lra_admission.specs.Keys.{digests_of};
@@ -9,12 +9,12 @@ use crate::names::{Name, is_own_host, is_own_origin};
 use lra_front::Denial;
 use lra_wire::RequestFields;
 
-/// By which it is known whether a request is let in.
+/// Rules by which requests are let in.
 #[derive(Clone, Copy)]
 pub struct Admission<'a> {
-    /// The keys of which each has to give one, if keys are asked for.
+    /// Keys of which each request has to give one, if keys are asked for.
     pub keys: Option<&'a Keys>,
-    /// The names by which each has to come, if there are any.
+    /// Names by which each request has to come, if there are any.
     pub names: &'a [Name],
 }
 
@@ -52,7 +52,7 @@ fn has_host(names: &[Name], host: &Option<Vec<u8>>) -> bool
     }
 }
 
-/// Returns whether a request came from no page, or from one of a place with one of the names.
+/// Returns whether a request came from no page, or from a page at one of the names.
 fn has_origin(names: &[Name], origin: &Option<Vec<u8>>) -> bool
     ensures { result ≡ spec.has_origin names.now (option_map (λ value. value.items) origin.now) }
 {
@@ -67,7 +67,7 @@ impl Admission<'_> {
     ghost use Rattle.lra_wire.specs.Request.{what_fields};
     ghost use Rattle.lra_admission.specs.Admitting.{rules_of, denial_of};
 
-    /// Why a request with these fields isn't let in, where it isn't.
+    /// Returns why a request with these fields isn't let in, or nothing if it is.
     pub fn denial(self, fields: &RequestFields) -> Option<Denial>
         ensures { result ≡ denial_of (rules_of self.entry) (what_fields fields.now) }
     {
@@ -87,22 +87,22 @@ impl Admission<'_> {
     }
 }
 
-/// A source that tells what is in force.
+/// Source that reports the rules in force.
 pub trait Latest {
     ghost use Rattle.std.specs.Prelude.{◌≡◌};
     ghost use Rattle.lra_admission.specs.Admitting.{Rules, rules_of};
 
-    // What is in force.
+    // The rules in force.
     ghost in_force: { Self → Rules };
 
-    // What a look does: what was in force before it, and what is after it.
+    // What a check does: which rules were in force before it, and which are after it.
     ghost looks: { Rules → Rules → Type 0 };
 
-    /// Looks at a moment, in milliseconds, whether other rules come into force.
+    /// Checks at a moment, in milliseconds, whether other rules come into force.
     fn look(&mut self, moment: u64)
         ensures { looks (in_force self.old) (in_force self.new) };
 
-    /// Returns what is in force. This takes no time.
+    /// Returns the rules in force. This takes no time.
     fn admission(&self) -> Admission<'_>
         ensures { rules_of result ≡ in_force self.now };
 }

@@ -19,10 +19,10 @@ ghost use Rattle.lra_admission.specs.inner.Left.{lines_left};
 
 use hex::FromHex;
 
-/// The number of bytes that a SHA-256 has.
+/// Number of bytes of a SHA-256.
 pub(crate) const DIGEST: usize = 32;
 
-/// The place of the first line feed.
+/// Returns the place of the first line feed.
 fn feed_place(text: &[u8]) -> Option<usize>
     ensures found { IfSome result (λ place. (place < length text.now) ×
         (spec.is_feed (slice_index text.now place) ≡ true)) }
@@ -32,7 +32,7 @@ fn feed_place(text: &[u8]) -> Option<usize>
     text.iter().position(|byte| *byte == b'\n')
 }
 
-/// The first line of a text, and what follows its end, where it has one.
+/// Cuts off the first line of a text. Returns it, and what follows its line feed, if it has one.
 pub(crate) fn cut_line(text: &[u8]) -> (&[u8], Option<&[u8]>)
     ensures lines { spec.lines_of text.now ≡ result.0.now ∷ lines_left (option_map (λ rest. rest.now) result.1) }
     ensures shorter { IfSome result.1 (λ rest. length rest.now < length text.now) }
@@ -53,7 +53,7 @@ pub(crate) fn is_remark(line: &[u8]) -> bool
     }
 }
 
-/// Returns what follows the spaces in front.
+/// Returns what follows the leading spaces.
 fn skip_spaces(text: &[u8]) -> &[u8]
     ensures { result.now ≡ spec.skip_spaces text.now }
 {
@@ -77,7 +77,7 @@ fn skip_name(text: &[u8]) -> &[u8]
     &text[text.len()..]
 }
 
-/// The digest that a line names, where it is a name and a digest.
+/// Returns the digest that a line names, if it is a name and a digest.
 pub(crate) fn digest_in(line: &[u8]) -> Option<[u8; DIGEST]>
     ensures { result ≡ spec.digest_in line.now }
 {

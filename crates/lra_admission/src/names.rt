@@ -10,7 +10,7 @@ use lra_model::Memory;
 use std::alloc::Global;
 use std::marker::Model;
 
-/// A name by which a service is called: a host, or a host and a port. A contract sees its text.
+/// Name by which a service is called: a host, or a host and a port. A contract sees its text.
 #[derive(Debug, Drop)]
 pub struct Name {
     text: String,
@@ -24,7 +24,7 @@ impl Model for Name {
     ghost view = { λ n. string_bytes n.text };
 }
 
-/// Returns whether two texts are one but for the case of their letters.
+/// Returns whether two texts are the same but for the case of their letters.
 fn is_alike(one: &[u8], other: &[u8]) -> bool
     ensures { result ≡ str_eq_ignore_ascii_case one.now other.now }
 {
@@ -50,7 +50,7 @@ fn behind_bracket(text: &[u8]) -> &[u8]
     &text[text.len()..]
 }
 
-/// A text from its first colon on, or nothing.
+/// Returns a text from its first colon on, or nothing.
 fn from_colon(text: &[u8]) -> &[u8]
     ensures value { result.now ≡ spec.from_colon text.now }
     ensures bound { length result.now ≤ length text.now }
@@ -84,14 +84,14 @@ fn is_any_port(text: &[u8]) -> bool
     }
 }
 
-/// Returns whether a byte may stand in a name, behind the bracket that may begin it.
+/// Returns whether a byte may stand in a name, after the bracket that may begin it.
 fn is_name_byte(byte: u8) -> bool
     ensures { result ≡ spec.is_name_byte byte }
 {
     byte.is_ascii_alphanumeric() || matches!(byte, b'-' | b'.' | b'_' | b':' | b']')
 }
 
-/// Returns whether all bytes of a text may stand there.
+/// Returns whether all bytes of a text may stand in a name, after the bracket that may begin it.
 fn all_name_bytes(text: &[u8]) -> bool
     ensures { result ≡ list_all spec.is_name_byte text.now }
 {
@@ -105,7 +105,7 @@ fn is_own_port(rest: &[u8]) -> bool
     is_any_port(rest) && rest.len() != 1 && rest.len() <= 6
 }
 
-/// A text without the bracket that may begin it.
+/// Returns a text without the bracket that may begin it.
 fn behind_opening(text: &[u8]) -> &[u8]
     ensures { result.now ≡ spec.behind_opening text.now }
 {
@@ -122,7 +122,7 @@ fn has_closing(text: &[u8]) -> bool
     text.contains(&b']')
 }
 
-/// Returns whether a text has a closing bracket where an opening one begins it, and none otherwise.
+/// Returns whether a text has a closing bracket if an opening one begins it, and none otherwise.
 fn is_closed(text: &[u8]) -> bool
     ensures { result ≡ spec.is_closed text.now }
 {
@@ -179,14 +179,14 @@ pub(crate) fn is_own_host(names: &[Name], host: &[u8]) -> bool
     false
 }
 
-/// Returns whether a byte may stand in a scheme, behind its first.
+/// Returns whether a byte may stand in a scheme, after its first byte.
 fn is_scheme_byte(byte: u8) -> bool
     ensures { result ≡ spec.is_scheme_byte byte }
 {
     byte.is_ascii_alphanumeric() || matches!(byte, b'+' | b'-' | b'.')
 }
 
-/// Returns whether all bytes of a text may stand in a scheme, behind its first.
+/// Returns whether all bytes of a text may stand in a scheme, after its first byte.
 fn all_scheme_bytes(text: &[u8]) -> bool
     ensures { result ≡ list_all spec.is_scheme_byte text.now }
 {
@@ -210,7 +210,7 @@ fn before_colon(text: &[u8]) -> &[u8]
     &text[..text.len() - from_colon(text).len()]
 }
 
-/// The host of an origin, with its port or without.
+/// Returns the host of an origin, with its port or without.
 fn host_in(origin: &[u8]) -> Option<&[u8]>
     ensures { option_map (λ host. host.now) result ≡ spec.host_in origin.now }
 {
@@ -236,7 +236,7 @@ impl Name {
     ghost use Rattle.std.specs.Prelude.{◌≡◌, if◌then◌else◌, Some, None, IfOk};
     ghost use Rattle.lra_admission.specs.Names.{is_name};
 
-    /// The name that a text is, where it is one: a host, or a host, a colon and a port.
+    /// Reads a text as a name, and returns it if it is one: a host, or a host, a colon and a port.
     pub fn read(alloc: Global, text: &str) -> Result<Option<Name>, Memory>
         ensures { IfOk result (λ found. found ≡ (if is_name text.now then Some text.now else None)) }
     {
@@ -248,7 +248,7 @@ impl Name {
         }))
     }
 
-    /// The text.
+    /// Returns the text.
     pub fn as_str(&self) -> &str
         ensures { result.now ≡ self.now }
     {

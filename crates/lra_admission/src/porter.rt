@@ -1,4 +1,4 @@
-//! The source of what is in force while a service runs.
+//! The source of the rules in force while a service runs.
 
 ghost use Rattle.std.specs.Prelude.{◌≡◌, IfOk, is_some, option_map};
 ghost use Rattle.std.specs.Arc.{arc_value};
@@ -12,7 +12,7 @@ use crate::told::Renewed;
 use lra_model::Memory;
 use std::sync::{Arc, Wait};
 
-/// The keys of a book that are in force at one connection worker.
+/// Keys of a key file that are in force at one connection worker.
 #[derive(Drop)]
 struct Held<'a> {
     book: &'a KeyBook,
@@ -33,7 +33,7 @@ impl<'a> Held<'a> {
 }
 
 impl Held<'_> {
-    /// Takes the keys of the book, where they are others by now. Where memory is refused that is tried again.
+    /// Takes over the keys of the key file if they have changed. If memory is refused, the next call tries again.
     fn take<R: Wait>(&mut self, rt: &R) {
         let version = self.book.version();
         if version == self.version {
@@ -46,7 +46,7 @@ impl Held<'_> {
     }
 }
 
-/// A source of what is in force, for one responder: the keys of a book as they were a second before at most, if there
+/// Source of the rules in force, for one handler: the keys of a key file as they were at most a second before, if there
 /// is one, and names that stay.
 #[derive(Drop)]
 pub struct Porter<'a, R, H> {
@@ -57,7 +57,8 @@ pub struct Porter<'a, R, H> {
 }
 
 impl<'a, R: Wait, H> Porter<'a, R, H> {
-    /// One with the keys of a book, if there is one, and with names. The herald is told what becomes of the keys.
+    /// Makes a source with the keys of a key file, if there is one, and with names. The notifier reports the outcome
+    /// whenever the keys are read again.
     pub fn new(
         rt: &'a R,
         herald: &'a H,

@@ -1,21 +1,21 @@
-//! The listeners for what was refused, and for what became of the keys.
+//! Notifiers of denied requests, and of keys that were read again.
 
 use crate::fault::KeysFault;
 use lra_front::Denial;
 
-/// A listener for the requests that are denied here.
+/// Notifier of the requests that are denied here.
 pub trait Refused {
-    /// A request was denied.
+    /// Reports that a request was denied.
     fn denied(&self, denial: Denial);
 }
 
-/// A listener for what became of the keys of a file that has changed.
+/// Notifier of the outcome of reading a changed file of keys.
 pub trait Renewed {
-    /// They were read and are in force now; or why those before them stay so.
+    /// Reports that keys were read and are in force now, or why the keys before them stay in force.
     fn renewed(&self, outcome: Result<(), KeysFault>);
 }
 
-/// Nobody.
+/// Notifier that reports nothing.
 #[derive(Clone, Copy, Debug)]
 pub struct Unheard;
 

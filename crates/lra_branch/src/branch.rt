@@ -21,8 +21,9 @@ use lra_office::{Clerk, OfficeOf, OfficeRefusal, Serving};
 use lra_workers::{Gate, WorkerEnd, run_carrier};
 use std::sync::{Arc, Wait};
 
-/// An office that many threads share, with one clerk of it: where orders are given as at a counter of one's own. A
-/// thread may have several, of different offices; an office ends with the last of its branches.
+/// Branch of an office that many threads share, with one clerk of the office: orders are given to it as at a counter of
+/// a thread's own. A thread may have several branches, of different offices. An office ends with the last of its
+/// branches.
 #[derive(Drop)]
 pub struct Branch<V: Serving, R> {
     rt: R,
@@ -33,7 +34,7 @@ pub struct Branch<V: Serving, R> {
 }
 
 impl<V: Serving, R> Branch<V, R> {
-    /// A branch of an office, for a clerk of it.
+    /// Makes a branch of an office, for a clerk of it.
     pub fn new(rt: R, office: Arc<OfficeOf<V>>, clerk: Clerk<V>) -> Branch<V, R>
         requires there { IsClerkOf (arc_value office).lock V.covers clerk }
         requires made { IsOfficeOf (V.setting (clerk_view clerk).origin) (arc_value office) }
@@ -45,8 +46,8 @@ impl<V: Serving, R> Branch<V, R> {
 }
 
 impl<V: Serving, R: Wait + Clone + Drop> Branch<V, R> {
-    /// Another branch of the office, for a clerk that is enrolled beside this one's, whether that can be done or not
-    /// this one's stays as it is.
+    /// Enrols another clerk beside this branch's clerk, and returns another branch of the office for it. Whether this
+    /// succeeds or not, this branch's clerk stays as it is.
     pub fn fork(&mut self, moment: u64) -> Result<Branch<V, R>, OfficeRefusal>
         ensures number { self.new.clerk.number ≡ self.old.clerk.number }
         ensures same { clerk_view self.new.clerk ≡ clerk_view self.old.clerk }
@@ -71,7 +72,7 @@ impl<V: Serving, R: Wait + Clone + Drop> Branch<V, R> {
         }
     }
 
-    /// Tells its clerk what that asks, as `OfficeOf::query` does.
+    /// Returns to its clerk what the query asks for, as `OfficeOf::query` does.
     pub fn query(&mut self, query: Query) -> Result<Known, OfficeRefusal>
         ensures number { self.new.clerk.number ≡ self.old.clerk.number }
         ensures known { IsQueried (V.setting (clerk_view self.old.clerk).origin) (clerk_view self.old.clerk) query
@@ -80,7 +81,7 @@ impl<V: Serving, R: Wait + Clone + Drop> Branch<V, R> {
         self.office.query(&self.rt, &mut self.clerk, query)
     }
 
-    /// Tells its clerk when something is due or late first, as `OfficeOf::next_moment` does.
+    /// Returns to its clerk the first moment at which something is due or late, as `OfficeOf::next_moment` does.
     pub fn next_moment(&mut self) -> Result<Option<u64>, OfficeRefusal>
         ensures number { self.new.clerk.number ≡ self.old.clerk.number }
         ensures next { IsLookedAhead (V.setting (clerk_view self.old.clerk).origin) (clerk_view self.old.clerk) result
@@ -89,7 +90,8 @@ impl<V: Serving, R: Wait + Clone + Drop> Branch<V, R> {
         self.office.next_moment(&self.rt, &mut self.clerk)
     }
 
-    /// Works as its clerk with many errands under way, as `run_carrier` does, and gives the clerk.
+    /// Works as its clerk with many errands under way, as `run_carrier` does. Returns the clerk and why the work has
+    /// ended.
     pub fn carry<C: Carriage, G: Gate, K: Clock>(
         self,
         carriage: &mut C,
@@ -110,8 +112,8 @@ impl<V: Serving, R: Wait + Clone + Drop> Branch<V, R> {
         run_carrier(&rt, &office, clerk, carriage, gate, clock)
     }
 
-    /// Takes the office back whole, with this clerk of it, where it has no other branch: no order reaches it any more.
-    /// Where it has, this one stays a branch.
+    /// Returns the office whole, with this clerk of it, if it has no other branch: no order reaches the office any
+    /// more. If it has another branch, this one stays a branch.
     pub fn close(self) -> Result<(OfficeOf<V>, Clerk<V>), Branch<V, R>>
         ensures whole { IfOk result (λ parts. (parts.0 ≡ arc_value self.office) × (parts.1 ≡ self.clerk)) }
         ensures kept { IfErr result (λ branch. (branch.office ≡ self.office) × (branch.clerk ≡ self.clerk)) }
@@ -161,19 +163,19 @@ impl<V: Serving, R: Wait> Session for Branch<V, R> {
     }
 }
 
-/// An office's clerk, as those use it who serve several offices, whatever their journals are written to.
+/// Clerk of an office, for code that serves several offices, whatever their journals are written to.
 pub trait Clerkship: Session {
-    /// Another clerk of the same office, where one can be enrolled at a moment, in milliseconds.
+    /// Returns another clerk of the same office, if one can be enrolled at a moment, in milliseconds.
     fn fork(&mut self, moment: u64) -> Option<Self>;
 
-    /// Returns what its office tells of its history, if it does.
+    /// Returns what the query asks for of the office's history, if the office reports it.
     fn query(&mut self, query: Query) -> Option<Known>;
 
-    /// Ends its office, where that has no other clerk: no order reaches it any more. Else the clerk is given back.
+    /// Ends its office, if that has no other clerk: no order reaches the office any more. Otherwise returns the clerk.
     fn close(self) -> Result<(), Self>;
 
-    /// Works as its clerk with many errands under way, until a gate lets no further turn be made, and tells why it has
-    /// ended.
+    /// Works as its clerk with many errands under way, until a gate lets no further turn be made. Returns why the work
+    /// has ended.
     fn carry<C: Carriage, G: Gate, K: Clock>(
         self,
         carriage: &mut C,

@@ -1,4 +1,4 @@
--- Who answers a request at a family, and what.
+-- Which member answers a request at a family, and how.
 use Rattle.std.proofs.Common.{◌≡◌, ◌≢◌, ℕ, ◌<◌, ◌^◌, Bool, false, true≢false, is_some, is_ok, List, map, Option, Some}
 use Rattle.std.proofs.Common.{None, Result, Err, inl, refl, sym, ap, ◌∙◌, subst, arith}
 use Rattle.std.specs.Prelude.{MatchOption, IfSome, IsSomeAnd, unwrap_or}
@@ -29,7 +29,7 @@ use Rattle.lra_family_front.proofs.Strangers.{strangers_deny}
 
 module _ {C : Type 0} (sight : C → Sight) (covers : C → ℕ → Bool) (gives : Sight → ℕ → Order → Result Told
     CounterFault → Sight → Type 0) where
-  -- ---- what a visit tells
+  -- ---- what a visit returns
 
   record Missed (i : ℕ) (ss ts : List Sight) : Type 0 where
     pub there : member name i ss ≡ None
@@ -42,7 +42,7 @@ module _ {C : Type 0} (sight : C → Sight) (covers : C → ℕ → Bool) (gives
     pub done : Answers sight covers gives old turn.moment turn.request turn.answered new
     pub after : ts ≡ put name i new ss
 
-  -- what becomes of a session's sight
+  -- how a visit changes the sight of a session
   abbrev Done : ℕ → Request → Option Answered → Sight → Sight → Type 0
   Done moment request r s t = IsSomeAnd r (λ a. Answers sight covers gives s moment request a t)
 
@@ -69,9 +69,9 @@ module _ {C : Type 0} (sight : C → Sight) (covers : C → ℕ → Bool) (gives
       after = k.2;
     }
 
-  -- ---- who is named answers
+  -- ---- the named member answers
 
-  -- what no journal does that is named
+  -- the journal that the turn names isn't in the family, and the answer has no position
   abbrev LacksOrdered : ConnectionTurn → Type 0
   LacksOrdered turn = Lacks (turn_of turn) × (turn.answered.position ≡ None)
 
@@ -91,9 +91,9 @@ module _ {C : Type 0} (sight : C → Sight) (covers : C → ℕ → Bool) (gives
       → Visits sight covers gives i turn.moment turn.request r ss ts → HasIdentifiers turn.answered.answer
   hit_identified i turn r ss ts some h = (hit i turn r ss ts some h).done.1
 
-  -- ---- the newest denies what it doesn't know
+  -- ---- the newest member denies an identifier that it doesn't know
 
-  -- what comes of a wish that is denied
+  -- the answer to an API request that is denied
   denied_is : (s t : Sight) (moment : ℕ) (w : Result Wish Denial) (d : Denial) (a : Answer) → w ≡ Err d
       → DoesOne gives s moment w t a → (a ≡ Denied d) × (t ≡ s)
   denied_is s t moment w d a e h = subst (λ v. DoesOne gives s moment v t a) e h
@@ -152,7 +152,7 @@ module _ {C : Type 0} (sight : C → Sight) (covers : C → ℕ → Bool) (gives
       ts in
       subst P place (subst Q (sym m.there) lacks)
 
-  -- the newest is there
+  -- the newest member is there
   pub newest_answers : (ss us ts : List Sight) (moment : ℕ) (request : Request) (i n : ℕ) (r q : Option Answered) →
       IsFamily (map name ss) → n ≡ newest name ss
       → r ≡ None → Visits sight covers gives i moment request r ss us → q ≡ None → Visits sight covers gives n moment
@@ -162,7 +162,7 @@ module _ {C : Type 0} (sight : C → Sight) (covers : C → ℕ → Bool) (gives
       let k = missed n moment request q us ts nothing second in
       newest_there name ss family (ap (λ j. member name j ss) (sym is) ∙ ap (member name n) (sym m.same) ∙ k.there)
 
-  -- ---- memory is refused in reading whose it is
+  -- ---- memory is refused in reading which instance a request names
 
   pub memory_serves : (ss : List Sight) (turn : ConnectionTurn) → turn.answered.answer ≡ Denied (Refused
       refusal.Memory) → turn.answered.position ≡ None → LacksMemory turn.request

@@ -89,7 +89,7 @@ member_base base i (m ∷ ms) s h e = by (name m == i) (member_base base i ms s 
 
 -- ---- a rest
 
--- who leaves leaves others behind
+-- a member that leaves isn't the last one
 leaves_some : (ss : List Sight) (s : Sight) → Leaves name ss s [] → ⊥
 leaves_some [] s h = absurd (true≢false (sym (ap is_some h.there)))
 leaves_some (m ∷ []) s h = by (name m == name s) refl h.there where
@@ -111,7 +111,7 @@ none_moved (Join s ∷ xs) ss h = absurd (joined_some ss s (sym h.1.joined ∙ n
 none_moved (Leave s ∷ xs) ss h =
     absurd (leaves_some ss s (subst (λ (us : List Sight). Leaves name ss s us) (none_moved xs h.0 h.2) h.1))
 
--- joins and leaves after which all URIs begin as they did, where these begin alike
+-- joins and leaves keep what all URIs begin with, if these begin alike
 pub rested_base : (ss ts : List Sight) → Moved ss ts → KeepsBase ss ts → HaveBase (base_of ss) ss
     → HaveBase (base_of ts) ts × (base_of ts ≡ base_of ss)
 rested_base ss [] moved keeps h = (tt, ap base_of (sym (none_moved moved.0 ss moved.1)))
@@ -119,9 +119,9 @@ rested_base ss (t ∷ ts) moved keeps h =
     let k = keeps (base_of ss) h in
     (subst (λ (own : List ℕ). HaveBase own (t ∷ ts)) (sym k.0) k, k.0)
 
--- ---- what is taken out
+-- ---- a counter that is removed
 
--- it leaves, or all stay
+-- the counter leaves, or all stay
 pub retired_moved : {T : Type 0} (sight : T → Sight) (i : ℕ) (r : Option T) (ss ts : List Sight)
     → IfSome r (λ c. (name (sight c) ≡ i) × Leaves name ss (sight c) ts)
     → IfNone r (((member name i ss ≡ None) ⊎ (i ≡ newest name ss)) × (ts ≡ ss)) → Moved ss ts × KeepsBase ss ts
@@ -133,7 +133,7 @@ retired_moved sight i (Some c) ss ts some none = (
 
 -- ---- a turn
 
--- what a family's URIs begin with, of which there are some
+-- what the URIs of a family that has members begin with
 abbrev Begin : List ℕ → List Sight → Type 0
 Begin base ss = HaveBase base ss × (base_of ss ≡ base)
 
@@ -160,7 +160,7 @@ begin_put base i t (s ∷ ss) e h = (have_put base i t (s ∷ ss) e h.0, by (nam
 module _ (gives : Sight → ℕ → Order → Result Told CounterFault → Sight → Type 0)
     (keeps : (before after : Sight) (moment : ℕ) (o : Order) (reply : Result Told CounterFault)
     → gives before moment o reply after → KeepsHistory before moment o reply after) where
-  -- the URIs go on to begin so
+  -- a turn keeps what the URIs begin with
   pub serves_base : (base : List ℕ) (before after : List Sight) (turn : Turn) → IsFamily (map name before)
       → HaveBase base before → Serves gives before turn after
       → HaveBase base after × (base_of after ≡ base)
@@ -198,7 +198,7 @@ serves_plain sight covers gives before after turn h = by (member name i before) 
   by None k = (k.0.0, k.1)
   by (Some s) k = let a = k.1.0 in (k.0, (a.0, a.1, a.2), k.2)
 
--- the URIs go on to begin so, too, where it is refused
+-- so does a turn that is refused
 pub outcome_base : {C : Type 0} (sight : C → Sight) (covers : C → ℕ → Bool) (gives : Sight → ℕ → Order → Result Told
     CounterFault → Sight → Type 0)
     (keeps : (before after : Sight) (moment : ℕ) (o : Order) (reply : Result Told CounterFault) → gives before moment
@@ -223,7 +223,7 @@ moves_turns ss us (OneTurn turn ∷ xs) ys h = absurd h
 moves_turns ss us (Join s ∷ xs) ys h = moves_turns h.0 us xs ys h.2
 moves_turns ss us (Leave s ∷ xs) ys h = moves_turns h.0 us xs ys h.2
 
--- what is put off is refused
+-- a request that is put off is refused
 refused : (lacks : Option ℕ → Bool → Type 0) (ss : List Sight) (request : Request) (answered : Answered)
     → IsPutOff lacks ss request answered → IsRefused answered.answer
 refused lacks ss request answered (inl h) = inl h.answer
@@ -231,7 +231,7 @@ refused lacks ss request answered (inr h) = inr h.1
 
 module _ {K C : Type 0} (lacks : Option ℕ → Bool → Type 0) (sight : C → Sight) (covers : C → ℕ → Bool)
     (gives : Sight → ℕ → Order → Result Told CounterFault → Sight → Type 0) (tells : K → ℕ → K → Type 0) where
-  -- joins and leaves, and what happens then
+  -- joins and leaves, and then other events
   moves_then : (ss us ts : List Sight) (xs ys : List (Event Sight Turn)) → Moves ss xs us
       → Run name names (Does gives) Lacks us ys ts → Run name names (Does gives) Lacks ss (xs ++ ys) ts
   moves_then ss us ts [] ys h r = subst (λ (vs : List Sight). Run name names (Does gives) Lacks vs ys ts) h r
@@ -239,12 +239,12 @@ module _ {K C : Type 0} (lacks : Option ℕ → Bool → Type 0) (sight : C → 
   moves_then ss us ts (Join s ∷ xs) ys h r = (h.0, h.1, moves_then h.0 us ts xs ys h.2 r)
   moves_then ss us ts (Leave s ∷ xs) ys h r = (h.0, h.1, moves_then h.0 us ts xs ys h.2 r)
 
-  -- what happens from a family on, to one, that has those turns
+  -- the events that lead from one family to another and have those turns
   abbrev Happening : List Sight → List ConnectionTurn → List Sight → Type 0
   Happening ss turns ts = (xs : List (Event Sight Turn)) × Run name names (Does gives) Lacks ss xs ts
       × AreTurns (turns_of xs) turns
 
-  -- a response, and what happens then
+  -- a response, and then other events
   respond_then : (ss us ts : List Sight) (turn : ConnectionTurn) (turns : List ConnectionTurn) → Responds lacks sight
       covers gives ss turn.moment turn.request turn.answered us → Happening us turns ts
       → Happening ss (turn ∷ turns) ts

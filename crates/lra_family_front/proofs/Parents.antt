@@ -11,7 +11,7 @@ use Rattle.lra_instances.specs.Bearing.{instance_at_end}
 use Rattle.lra_front.specs.Bodies.{object_in}
 use Rattle.lra_family_front.specs.Naming.{parent_of, parent_in}
 
--- what is found of it, step by step
+-- the parent's instance in a body, step by step
 pub parent_found : (d : Data) → option_and_then instance_at_end (option_and_then as_str (get (codes "parent") d))
     ≡ parent_of (as_object d)
 parent_found null = refl

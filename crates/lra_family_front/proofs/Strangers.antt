@@ -1,4 +1,4 @@
--- What names another instance than that of the coordinator is denied by it.
+-- A coordinator denies requests that name another instance than its own.
 use Rattle.std.proofs.Common.{◌≡◌, ◌≢◌, ℕ, ◌<◌, ◌^◌, Bool, true, false, ◌&&◌, ◌++◌, List, [], Option, Some, None}
 use Rattle.std.proofs.Common.{option_and_then, Result, Ok, Err, inl, inr, refl, sym, ap, ◌∙◌, subst}
 use Rattle.std.specs.Prelude.{codes, unwrap_or, MatchOption}
@@ -28,7 +28,7 @@ use Rattle.lra_family_front.specs.Laws.{IdentifiersName, StrangersDeny, TwoAreRe
 some_same : {A : Type 0} (x y : A) → Some x ≡ Some y → x ≡ y
 some_same x y e = cc
 
--- what isn't spelled by an instance is denied
+-- an identifier that isn't spelled by an instance is denied
 denied : (spelled : ℕ → List ℕ) (text : List ℕ) (none : Denial) (Next : ℕ → Result Wish Denial → Type 0)
     (w : Result Wish Denial)
     → ((n : ℕ) → ¬ (IsSpelling spelled text n)) → IsNamed spelled text none Next w → w ≡ Err none
@@ -149,7 +149,7 @@ strangers_deny i j base request w small named other (inr asks) =
 
 -- ---- two instances
 
--- what a member asks for that leaves
+-- what a member that leaves asks for
 abbrev IsLeaving : ℕ → ℕ → Result Wish Denial → Type 0
 IsLeaving action m v = v ≡ Ok (wish.Leave action m)
 
@@ -176,7 +176,7 @@ two_refused i base request ms uri w small served body text other (inr asks) =
     (λ m. IsWish i base (id_in request.target) m operation.Remove w) in
     inr (recovery_refused i base (id_in request.target) uri ms w small text other (subst Q body (subst P served asks)))
 
--- ---- whose identifier is named
+-- ---- which identifier is named
 
 inside_named : (request : Request) (i n : ℕ) (r : Operation) → r ≢ operation.Start → instance_in (id_in request.target)
     ≡ Some i → named_at request r ≡ Some i

@@ -14,7 +14,7 @@ use Rattle.lra_family.specs.Families.{newest}
 use Rattle.lra_family_front.specs.Naming.{instance_of}
 use Rattle.lra_family_front.specs.Waiting.{IsPutOff}
 
--- who is put off is told whose that would be, unless memory was refused
+-- the answer to a request that is put off names the instance that would answer, unless memory was refused
 pub put_off_whose : (tells : Option ℕ → Bool → Type 0) (ss : List Sight) (request : Request) (answered : Answered)
     → IsPutOff tells ss request answered
     → answered.answer ≢ Denied (Refused refusal.Memory) → answered.instance
@@ -26,7 +26,7 @@ none_some : (p : Option ℕ) → p ≡ None → IsSome p → ⊥
 none_some None e h = absurd cc
 none_some (Some n) e h = absurd cc
 
--- it waits for nothing
+-- it has no position, and so waits for no sync
 pub put_off_journal : (tells : Option ℕ → Bool → Type 0) (ss : List Sight) (request : Request) (answered : Answered) →
     IsPutOff tells ss request answered
     → IsSome answered.position → answered.instance ≡ unwrap_or (instance_of request) (newest name ss)

@@ -1,4 +1,4 @@
--- A family whose members join and leave between its turns, as one that answers.
+-- Handler for a family whose members join and leave between its turns.
 use Rattle.std.specs.Prelude.{◌≡◌, ◌≢◌, ◌⊎◌, ℕ, Bool, List, [], ◌∷◌, Option, IsSome, unwrap_or, Result}
 use Rattle.std.specs.List.{AllByRecursion}
 use Rattle.lra_wire.specs.Request.{Request}
@@ -36,17 +36,18 @@ Moves ss (OneTurn turn ∷ xs) ts = ⊥
 Moves ss (Join s ∷ xs) ts = (us : List Sight) × Joins name ss s us × Moves us xs ts
 Moves ss (Leave s ∷ xs) ts = (us : List Sight) × Leaves name ss s us × Moves us xs ts
 
--- some members did
+-- there are such joins and leaves
 abbrev pub Moved : List Sight → List Sight → Type 0
 Moved before after = (xs : List (Event Sight Turn)) × Moves before xs after
 
--- all URIs go on to begin as they did
+-- all URIs still begin as they did
 abbrev pub KeepsBase : List Sight → List Sight → Type 0
 KeepsBase before after = (base : List ℕ) → HaveBase base before → HaveBase base after
 
 module _ {C : Type 0} (tells : Option ℕ → Bool → Type 0) (sight : C → Sight) (covers : C → ℕ → Bool)
     (gives : Sight → ℕ → Order → Result Told CounterFault → Sight → Type 0) where
-  -- a request is answered as in a family that stays, where the counter is known; or it is refused, and reaches none
+  -- a request is answered as in a family that stays as it is, if the counter is known; or it is refused, and reaches no
+  -- member
   abbrev pub Outcome : List Sight → ℕ → Request → Answered → List Sight → Type 0
   Outcome before moment request answered after =
       (IsSure tells before request × ServesOrdered sight covers gives before (record {
@@ -57,18 +58,18 @@ module _ {C : Type 0} (tells : Option ℕ → Bool → Type 0) (sight : C → Si
       }) after)
       ⊎ (IsPutOff tells before request answered × (after ≡ before))
 
-  -- what a request at a moment does: members join and leave, and then it is answered at the one that it names, as in a
-  -- family that stays; or it is refused, and reaches
-  -- none, where it is told that the one may still be lacked
+  -- What a request at a moment does: members join and leave, and then the member that it names answers, as in a family
+  -- that stays as it is. Or the request is refused, and reaches no member, if the membership reports that the family
+  -- may still lack that member.
   pub record Responds (before : List Sight) (moment : ℕ) (request : Request) (answered : Answered) (after : List
       Sight) : Type 0 where
     pub met : List Sight
     pub moved : Moved before met
     pub serves : Outcome met moment request answered after
-    -- it tells whose the answer is, unless memory was refused
+    -- the answer names the instance that the request names, unless memory was refused
     pub whose : answered.answer ≢ answer.Denied (denial.Refused refusal.Memory) → answered.instance ≡ unwrap_or
         (instance_of request) (newest name met)
-    -- a position is one of the journal that it names
+    -- a position is one in the journal that the request names
     pub journal : IsSome answered.position → answered.instance ≡ unwrap_or (instance_of request) (newest name met)
     pub base : base_of after ≡ base_of before
 
@@ -77,7 +78,7 @@ pub record Rests (before after : List Sight) : Type 0 where
   pub moved : Moved before after
   pub base : base_of after ≡ base_of before
 
--- the turns among what happened, in order
+-- the turns among the events, in order
 abbrev pub turns_of : List (Event Sight Turn) → List Turn
 turns_of [] = []
 turns_of (OneTurn turn ∷ xs) = turn ∷ turns_of xs
@@ -92,15 +93,14 @@ AreTurns es (turn ∷ turns) = ((fs : List Turn) × (es ≡ turn_of turn ∷ fs)
 
 module _ {K C : Type 0} (lacks : Option ℕ → Bool → Type 0) (sight : C → Sight) (covers : C → ℕ → Bool)
     (gives : Sight → ℕ → Order → Result Told CounterFault → Sight → Type 0) (tells : K → ℕ → K → Type 0) where
-  -- Requests that a household answers one after another are a run of its family: its turns are these, in order, but for
-  -- those that are refused while a member may be
-  -- lacked, and members join and leave between them.
+  -- Requests that a household answers one after another are a run of its family: its turns are these requests, in
+  -- order, but for those that are refused while a member may be lacked. Members join and leave between them.
   abbrev pub HouseholdsRun : Type 0
   HouseholdsRun = (ss ts : List Sight) (k l : K) (turns : List ConnectionTurn) → Chain (Responds lacks sight covers
       gives) tells ss k turns ts l
       → (xs : List (Event Sight Turn)) × Run name names (Does gives) Lacks ss xs ts × AreTurns (turns_of xs) turns
 
-  -- The same with rests between the requests: of these there are joins and leaves alone.
+  -- The same with rests between the requests: a rest only adds joins and leaves.
   abbrev pub HouseholdsRest : Type 0
   HouseholdsRest = (ss ts : List Sight) (k l : K) (course : List (Option ConnectionTurn)) → Course (Responds lacks
       sight covers gives) Rests tells ss k course ts l

@@ -1,4 +1,4 @@
--- What follows from which instance a request names.
+-- Consequences of which instance a request names.
 use Rattle.std.specs.Prelude.{◌≡◌, ◌≢◌, ◌⊎◌, ◌<◌, ◌^◌, ℕ, List, codes, Some, Result, Ok, Err}
 use Rattle.serde_json.specs.Data.{Members}
 use Rattle.lra_ids.specs.Identifiers.{id_text, action_uri}
@@ -43,20 +43,20 @@ pub record HasParent (request : Request) (i : ℕ) : Type 0 where
   pub borne : IsBorne i number
   pub text : text_under (codes "parent") members ≡ Some (action_uri i base number)
 
--- Whose identifier stands in the path or is the parent is named.
+-- A request names the instance whose identifier stands in its path or is the parent in its body.
 abbrev pub IdentifiersName : Type 0
 IdentifiersName = (request : Request) (i : ℕ) → HasIdentifier request i ⊎ HasParent request i → instance_of request
     ≡ Some i
 
--- A coordinator that isn't the one which a request names denies it, whatever its base: as an identifier that isn't its
--- own.
+-- A coordinator that a request doesn't name denies the request, whatever its base: as one with an identifier that isn't
+-- its own.
 abbrev pub StrangersDeny : Type 0
 StrangersDeny = (i j : ℕ) (base : List ℕ) (request : Request) (w : Result Wish Denial) → i < 2 ^ 60
     → instance_of request ≡ Some j → i ≢ j
     → MayAsk i base request w → (d : Denial) × IsUnknown request d × (w ≡ Err d)
 
--- A member leaves by a recovery URI of another instance than that of the coordinator which is asked: it is refused as
--- one that isn't its own, after the identifier of the path.
+-- A member leaves by a recovery URI of another instance than that of the coordinator which is asked: the coordinator
+-- refuses the URI as one that isn't its own, once the identifier of the path is found to be its own.
 abbrev pub TwoAreRefused : Type 0
 TwoAreRefused = (i : ℕ) (base : List ℕ) (request : Request) (members : Members) (uri : List ℕ) (w : Result Wish Denial)
     → i < 2 ^ 60
@@ -66,7 +66,7 @@ TwoAreRefused = (i : ℕ) (base : List ℕ) (request : Request) (members : Membe
     → ((w ≡ Err (Refused refusal.Memory)) × LacksMemory request) ⊎ IsNamed (id_text i) (id_in request.target) no_action
     (λ action v. v ≡ Err no_member) w
 
--- What is done for one request is one turn of a run.
+-- Answering one request is one turn of a run.
 abbrev pub AnswersAreTurns : (Sight → ℕ → Order → Result Told CounterFault → Sight → Type 0) → Type 0
 AnswersAreTurns gives = (before after : List Sight) (turn : Turn) → Serves gives before turn after
     → Happens name names (Does gives) Lacks before (OneTurn turn) after

@@ -1,4 +1,4 @@
--- What one request does at a family: whose it is, and what is answered.
+-- What one request does at a family: which journal answers, and how.
 use Rattle.std.specs.Prelude.{◌≡◌, ◌⊎◌, ℕ, Bool, List, None, MatchOption, IfSome, IsTrue, unwrap_or, Result}
 use Rattle.std.specs.Result.{MatchResult}
 use Rattle.lra_commands.specs.declared.command.Told.{Told}
@@ -23,13 +23,13 @@ use Rattle.lra_family.specs.Counted.{name}
 use Rattle.lra_family.specs.Families.{newest, MovesAt}
 use Rattle.lra_family_front.specs.Naming.{instance_of}
 
--- a request at a moment, and what it is answered
+-- a request at a moment, and its answer
 pub record Turn : Type 0 where
   pub moment : ℕ
   pub request : Request
   pub answer : Answer
 
--- the instance that a turn names, where that one is the newest: an outermost start is the newest's
+-- the instance that a turn names, given the newest one: an outermost start is for the newest
 abbrev pub names : ℕ → Turn → ℕ
 names newest turn = unwrap_or (instance_of turn.request) newest
 
@@ -39,15 +39,15 @@ unknown_at operation.MemberStatus = no_member
 unknown_at operation.Report = no_member
 unknown_at _ = no_action
 
--- How a request is denied whose identifier is of no journal that is there: as each counter denies one that isn't its
--- own. What is wrong with the body is said first, and memory may be refused in reading it.
+-- How a request is denied whose identifier is of no journal in the family: as each counter denies an identifier that
+-- isn't its own. A wrong body is reported first, and memory may be refused in reading it.
 abbrev pub IsUnknown : Request → Denial → Type 0
 IsUnknown request d = ((d ≡ Refused refusal.Memory) × LacksMemory request)
     ⊎ MatchResult (operation_of request.method request.target)
     (λ r. MatchOption (body_of r request.body) (d ≡ BadBody) (λ members. d ≡ unknown_at r))
     (λ e. d ≡ e)
 
--- no journal is there that the turn names, and it is denied
+-- the journal that the turn names isn't in the family, and the turn is denied
 abbrev pub Lacks : Turn → Type 0
 Lacks turn = (d : Denial) × IsUnknown turn.request d × (turn.answer ≡ Denied d)
 
@@ -61,25 +61,24 @@ module _ (gives : Sight → ℕ → Order → Result Told CounterFault → Sight
   Serves before turn after = MovesAt name (names (newest name before) turn) before (λ s t. Does s turn t) (Lacks turn)
       after
 
--- a turn of a connection, without whose its answer is and what it rests on
+-- a turn of a connection, without its answer's instance and position
 abbrev pub turn_of : ConnectionTurn → Turn
 turn_of turn = record { moment = turn.moment; request = turn.request; answer = turn.answered.answer }
 
 module _ {C : Type 0} (sight : C → Sight) (covers : C → ℕ → Bool) (gives : Sight → ℕ → Order → Result Told
     CounterFault → Sight → Type 0) where
-  -- so many bytes of its journal tell of all that a session has seen of which that is known
+  -- a session of which this is known covers so many bytes of its journal
   abbrev pub IsCoveredAt : Sight → ℕ → Type 0
   IsCoveredAt known n = (session : C) × (sight session ≡ known) × IsTrue (covers session n)
 
-  -- what a turn does at its member: what the front does there, and where an order was given the answer has a
-  -- position, which covers all that the
-  -- member has seen by then
+  -- what a turn does at its member: what the front does there; if an order was given, the answer has a position, which
+  -- covers all that the member has seen by then
   abbrev pub DoesOrdered : Sight → ConnectionTurn → Sight → Type 0
   DoesOrdered before turn after =
       AnswersOrdered gives before turn.moment turn.request turn.answered after × IfSome turn.answered.position
       (IsCoveredAt after)
 
-  -- what a turn does in a family; where no journal is there that it names, the answer has no position
+  -- what a turn does in a family; if the journal that it names isn't there, the answer has no position
   abbrev pub ServesOrdered : List Sight → ConnectionTurn → List Sight → Type 0
   ServesOrdered before turn after = MovesAt name (names (newest name before) (turn_of turn)) before
       (λ s t. DoesOrdered s turn t) (Lacks (turn_of turn) × (turn.answered.position ≡ None)) after

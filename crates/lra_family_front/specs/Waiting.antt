@@ -1,4 +1,4 @@
--- What a family can't answer while it may lack a member.
+-- Requests that a family can't answer while it may lack a member.
 use Rattle.std.specs.Prelude.{◌≡◌, ◌⊎◌, ℕ, Bool, true, false, List, MatchOption, None, Option, Result, Ok, unwrap_or}
 use Rattle.lra_wire.specs.Request.{Request}
 use Rattle.lra_commands.specs.declared.refusal.Refusal.TheVariants as refusal
@@ -25,22 +25,21 @@ start_by _ = false
 abbrev pub is_start : Request → Bool
 is_start request = start_by (operation_of request.method request.target)
 
--- What names an instance, or none, and starts an action or doesn't, isn't answered by a member that is surely in the
--- family: a start that names none is the newest's,
--- and an identifier may be that of one which isn't there yet.
+-- No member that is surely in the family answers this request: a start that names no instance is for the newest member,
+-- and an identifier may be that of a member which isn't there yet.
 abbrev pub IsAstray : List Sight → Bool → Option ℕ → Type 0
 IsAstray ss start named = MatchOption named (start ≡ true) (λ i. member name i ss ≡ None)
 
--- an answer is a refusal of what can't be done now, which reaches no member
+-- an answer refuses what can't be done now, and the request reaches no member
 abbrev pub IsRefused : Answer → Type 0
 IsRefused answer = (answer ≡ Denied (Refused refusal.Stopped)) ⊎ (answer ≡ Denied (Refused refusal.Memory))
 
 module _ (tells : Option ℕ → Bool → Type 0) where
-  -- where a member that isn't there would answer a request, it is told that there is none
+  -- if a member that isn't there would answer a request, the membership reports that there is no such member
   abbrev pub IsSure : List Sight → Request → Type 0
   IsSure ss request = IsAstray ss (is_start request) (instance_of request) → tells (instance_of request) false
 
-  -- it is told that the member may still be lacked, which would answer
+  -- the membership reports that the family may still lack the member that would answer
   pub record Lacked (ss : List Sight) (request : Request) (answered : Answered) : Type 0 where
     pub astray : IsAstray ss (is_start request) (instance_of request)
     pub told : tells (instance_of request) true
@@ -48,11 +47,12 @@ module _ (tells : Option ℕ → Bool → Type 0) where
     pub answer : answered.answer ≡ Denied (Refused refusal.Stopped)
     pub position : answered.position ≡ None
 
-  -- memory is refused in reading what it names
+  -- memory is refused in reading the instance that a request names
   abbrev pub IsUnread : Request → Answered → Type 0
   IsUnread request answered = LacksMemory request × (answered.answer ≡ Denied (Refused refusal.Memory)) ×
       (answered.position ≡ None)
 
-  -- a request is refused, since what answers it may still be lacked, or since that can't be read: it waits for nothing
+  -- a request is refused, since the family may still lack the member that answers, or since the instance that it names
+  -- can't be read: its answer waits for no sync
   abbrev pub IsPutOff : List Sight → Request → Answered → Type 0
   IsPutOff ss request answered = Lacked ss request answered ⊎ IsUnread request answered

@@ -1,4 +1,4 @@
-//! A family whose members join and leave, as one that answers.
+//! Handler for a family whose members join and leave.
 
 ghost use Rattle.std.specs.Prelude.{
   ◌≡◌,
@@ -42,31 +42,32 @@ use lra_steps::{Answered, Responder};
 use lra_wire::RequestRead;
 use std::alloc::Global;
 
-/// The membership of a family: it tells which counters are in the family by now.
+/// Membership of a family: it reports which counters are in the family at present.
 pub trait Kinship<C: Counter + Drop> {
     ghost use Rattle.std.specs.Prelude.{ℕ, Bool, false, Option, IsFalse};
     ghost use Rattle.lra_family_front.specs.Households.{KeepsBase, Moved};
 
-    // What it may tell of what names an instance, or none.
+    // What it may report of a request that names an instance, or none.
     ghost tells: { Option ℕ → Bool → Type 0 };
 
-    /// Adds counters that are newer than all, and removes others. Where memory for one is refused, that one may be
-    /// added at another look.
+    /// Adds counters that are newer than all in the family, and removes others. If memory for a counter is refused, a
+    /// later call may add it.
     fn look(&mut self, family: &mut Family<C>)
         ensures moved { Moved family.old family.new }
         ensures base { KeepsBase family.old family.new };
 
-    /// Returns whether a family may still lack any counter. This is asked for each request, and so takes no time.
+    /// Returns whether the family may still lack any counter. A handler calls this for each request, so it takes no
+    /// time.
     fn lacks_any(&self) -> bool
         ensures { IsFalse result → (named : Option ℕ) → tells named false };
 
-    /// Returns whether a family may still lack the counter of an instance, or for none the newest: then what names it
-    /// can't be answered yet.
+    /// Returns whether the family may still lack the counter of the named instance, or the newest counter if none is
+    /// named. If it may, a request that names that instance, or none, can't be answered yet.
     fn lacks(&self, named: Option<Instance>) -> bool
         ensures { tells named result };
 }
 
-/// The newest counter of a family.
+/// Returns the newest counter of a family.
 fn newest<C: Counter + Drop>(family: &Family<C>) -> &C
     ensures { (base : List ℕ) → HaveBase base family.now → (C.sight result.now).setting.base ≡ base }
 {
@@ -76,15 +77,15 @@ fn newest<C: Counter + Drop>(family: &Family<C>) -> &C
     }
 }
 
-/// Returns whether the URIs of a counter begin as those of a family do.
+/// Returns whether the URIs of a counter begin as those of the family do.
 fn is_kin<C: Counter + Drop>(family: &Family<C>, counter: &C) -> bool
     ensures { IsTrue result → (base : List ℕ) → HaveBase base family.now → (C.sight counter.now).setting.base ≡ base }
 {
     newest(family).base().as_str() == counter.base().as_str()
 }
 
-/// Adds a counter to a family, where it is newer than all and its URIs begin as theirs do. Else, or where memory is
-/// refused, it is given back.
+/// Adds a counter to a family if it is newer than all others and its URIs begin as theirs do. Otherwise, or if memory
+/// is refused, returns the counter.
 pub fn admit<C: Counter + Drop>(family: &mut Family<C>, counter: C) -> Result<(), C>
     ensures moved { Moved family.old family.new }
     ensures base { KeepsBase family.old family.new }
@@ -101,7 +102,7 @@ pub fn admit<C: Counter + Drop>(family: &mut Family<C>, counter: C) -> Result<()
     }
 }
 
-/// Takes the counter of an instance out of a family, where there is one and it isn't the newest.
+/// Removes the counter of an instance from a family and returns it, if there is one and it isn't the newest.
 pub fn dismiss<C: Counter + Drop>(family: &mut Family<C>, instance: Instance) -> Option<C>
     ensures moved { Moved family.old family.new }
     ensures base { KeepsBase family.old family.new }
@@ -120,8 +121,8 @@ fn starts(routes: &Routes, request: &RequestRead) -> bool
     )
 }
 
-/// Returns whether a family may lack the counter that answers what names an instance, or none, and starts an action or
-/// doesn't, as its kinship tells: the newest, or one that isn't there.
+/// Returns whether the membership reports that the family may lack the counter for a request. That is the counter of
+/// the instance that the request names, if it isn't there; or the newest, for a start that names none.
 fn is_lacked<C: Counter + Drop, K: Kinship<C>>(
     family: &Family<C>,
     kinship: &K,
@@ -138,8 +139,8 @@ fn is_lacked<C: Counter + Drop, K: Kinship<C>>(
     }
 }
 
-/// Returns the denial of a request that can't be answered yet, in a family with that newest instance: the request is
-/// refused, and reaches no member.
+/// Returns the API error for a request that can't be answered yet: the request is refused, and reaches no member.
+/// `newest` is the family's newest instance.
 fn put_off<C: Counter + Drop, K: Kinship<C>>(
     alloc: Global,
     routes: &Routes,
@@ -164,8 +165,8 @@ fn put_off<C: Counter + Drop, K: Kinship<C>>(
     Some(Answered::denied(named.unwrap_or(newest), Denial::Refused(Refusal::Stopped)))
 }
 
-/// Answers a request at a moment, as it is answered in a family that stays; or refuses it, and reaches no member, where
-/// the one that would answer may be lacked.
+/// Answers a request at a moment, as in a family that stays as it is. If the family may lack the member that would
+/// answer, refuses the request, which then reaches no member.
 #[tactic(auto, using(crate::proofs::Waiting::put_off_whose, crate::proofs::Waiting::put_off_journal, crate::proofs::Waiting::put_off_bears))]
 fn respond_at<C: Session + Drop, K: Kinship<C>>(
     alloc: Global,
@@ -191,7 +192,7 @@ fn respond_at<C: Session + Drop, K: Kinship<C>>(
     }
 }
 
-/// A family whose members join and leave, and who tells which they are. All URIs begin alike.
+/// Family whose members join and leave, with its membership. The URIs of all members begin alike.
 #[derive(Drop)]
 pub struct Household<C: Counter + Drop, K: Kinship<C>> {
     family: Family<C>,
@@ -200,7 +201,7 @@ pub struct Household<C: Counter + Drop, K: Kinship<C>> {
 }
 
 impl<C: Counter + Drop, K: Kinship<C>> Household<C, K> {
-    /// That of a family whose URIs all begin alike.
+    /// Makes a handler for a family whose URIs all begin alike.
     pub fn new(family: Family<C>, kinship: K) -> Household<C, K>
         requires { HaveBase (base_of family) family }
         ensures family { result.family ≡ family }
@@ -209,7 +210,7 @@ impl<C: Counter + Drop, K: Kinship<C>> Household<C, K> {
         Household { family, kinship }
     }
 
-    /// The family as it is by now, and who tells.
+    /// Returns the family as it is at present, and its membership.
     pub fn into_parts(self) -> (Family<C>, K)
         ensures { result ≡ (self.family, self.kinship) }
     {
@@ -258,7 +259,7 @@ impl<C: Session + Drop, K: Kinship<C>> Responder for Household<C, K> {
         )
     }
 
-    /// Members leave that are there no more, and so nothing is held of them until the next request.
+    /// Removes the members that have left, so that nothing is held of them until the next request.
     fn rest(&mut self) {
         self.kinship.look(&mut self.family);
     }

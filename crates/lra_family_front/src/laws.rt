@@ -10,24 +10,25 @@ use crate::household::Kinship;
 use lra_commands::{Counter, Session};
 use lra_front::Clock;
 
-/// A request names the instance whose identifier stands in its path, and a start that of its parent.
+/// Shows that a request names the instance whose identifier stands in its path, and a start that of its parent.
 pub fn requests_name_instances()
     ensures { IdentifiersName }
 {}
 
-/// A coordinator denies whatever names another instance than its own.
+/// Shows that a coordinator denies each request that names another instance than its own.
 pub fn strangers_are_denied()
     ensures { StrangersDeny }
 {}
 
-/// A request that names one instance by its path and another by its body is refused by the one that is asked.
+/// Shows that a request that names one instance by its path and another by its body is refused by the instance that is
+/// asked.
 pub fn two_instances_are_refused()
     ensures { TwoAreRefused }
 {}
 
-/// The requests that name a journal are its own, each once and in order: to it they are a connection over it alone,
-/// whatever the others are asked. Those that name none that is there are denied, and reach none. What `respond` does is
-/// a turn of such a run.
+/// Shows that each journal answers the requests that name it, each once and in order: to the journal they are a
+/// connection over it alone, whatever the other journals are asked. A request that names a journal that isn't there is
+/// denied, and reaches none. Each call of `respond` is a turn of such a run.
 pub fn each_member_answers_its_own<C: Counter>()
     ensures turns { AnswersAreTurns C.gives }
     ensures chains { laws.EachHasItsChain name names (Does C.gives) Lacks }
@@ -35,9 +36,9 @@ pub fn each_member_answers_its_own<C: Counter>()
     ensures cut { laws.RunsCanBeCut name names (Does C.gives) Lacks }
 {}
 
-/// Requests that a household answers one after another are turns of a run of its family, with joins and leaves between
-/// them: so what is known of such runs is known of the members of a household. A request that is refused while a member
-/// may be lacked is no turn of the run. Rests between the requests add joins and leaves alone.
+/// Shows that requests that a household answers one after another are turns of a run of its family, with joins and
+/// leaves between them: so what holds of such runs holds of the members of a household. A request that is refused while
+/// a member may be lacked is no turn of the run. Rests between the requests only add joins and leaves.
 pub fn households_are_families<C: Session + Drop, H: Kinship<C>, K: Clock>()
     ensures runs { HouseholdsRun H.tells C.sight C.covers C.gives K.tells }
     ensures rests { HouseholdsRest H.tells C.sight C.covers C.gives K.tells }

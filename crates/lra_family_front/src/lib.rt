@@ -1,4 +1,4 @@
-//! The front over a family of journals: which one a request names, and what is answered.
+//! Front over a family of journals: which journal a request names, and how the request is answered.
 #![tactic(auto)]
 
 mod household;

@@ -1,4 +1,4 @@
-//! Which instance a request names.
+//! The instance that a request names.
 
 ghost use Rattle.std.specs.Prelude.{◌≡◌, IfOk, OnErr, IfSome};
 ghost use Rattle.serde_json.specs.Find.{as_object};
@@ -14,14 +14,14 @@ use lra_wire::RequestRead;
 use serde_json::Value;
 use std::alloc::Global;
 
-/// The instance of the parent that a body names.
+/// Returns the instance of the parent that a body names.
 fn parent_under(body: &Value) -> Option<Instance>
     ensures { result ≡ spec.parent_of (as_object (view body.now)) }
 {
     instance_at_end(body.get("parent")?.as_str()?.as_bytes())
 }
 
-/// The instance of the parent that the body of a start names.
+/// Returns the instance of the parent that the body of a start names.
 fn parent_in(alloc: Global, body: &[u8]) -> Result<Option<Instance>, Memory>
     ensures { IfOk result (λ parent. parent ≡ spec.parent_in body.now) }
 {
@@ -39,7 +39,7 @@ fn parent_in(alloc: Global, body: &[u8]) -> Result<Option<Instance>, Memory>
     }
 }
 
-/// The instance that a request names at an operation.
+/// Returns the instance that a request names at an operation.
 fn named_at(
     alloc: Global,
     operation: Operation,
@@ -54,8 +54,8 @@ fn named_at(
     Ok(instance_in(id_in(request.target.as_str()).as_bytes()))
 }
 
-/// The instance that a request names: by the identifier in its path, or by the parent in the body of a start. Memory
-/// may be refused where the body of a start is read.
+/// Returns the instance that a request names: by the identifier in its path, or by the parent in the body of a start.
+/// Reading that body may be refused memory.
 pub fn instance_of(
     alloc: Global,
     routes: &Routes,

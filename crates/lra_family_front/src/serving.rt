@@ -22,7 +22,7 @@ use lra_steps::{Answered, Responder};
 use lra_wire::RequestRead;
 use std::alloc::Global;
 
-/// A request that is answered at a moment.
+/// Request that is answered at a moment.
 #[derive(Drop)]
 struct Responding<'a> {
     alloc: Global,
@@ -48,7 +48,7 @@ impl<'a, C: Session> Visit<C> for Responding<'a> {
     }
 }
 
-/// Answers a request at the counter of an instance, where there is one. Every other stays.
+/// Answers a request at the counter of an instance, if there is one. Every other counter stays as it was.
 fn visit<C: Session + Drop>(
     family: &mut Family<C>,
     instance: Instance,
@@ -60,7 +60,7 @@ fn visit<C: Session + Drop>(
     family.visit(instance, responding)
 }
 
-/// Answers a request at the journal of an instance; or at the newest, which denies it, where that one isn't there.
+/// Answers a request at the journal of an instance. If that journal isn't there, the newest one denies the request.
 fn answer<C: Session + Drop>(
     family: &mut Family<C>,
     instance: Instance,
@@ -86,9 +86,9 @@ fn answer<C: Session + Drop>(
     }
 }
 
-/// Answers a request at a moment: it does at the journal that it names what the front does over that one alone, and
-/// every other stays. Where no such journal is there, the newest denies it, which doesn't know the identifier either:
-/// no order is given then, and the answer has no position.
+/// Answers a request at a moment. The journal that the request names does what the front does over that journal alone,
+/// and every other journal stays as it was. If there is no such journal, the newest one denies the request, since it
+/// doesn't know the identifier either: no order is given then, and the answer has no position.
 pub fn respond<C: Session + Drop>(
     alloc: Global,
     routes: &Routes,
@@ -98,15 +98,15 @@ pub fn respond<C: Session + Drop>(
 ) -> Answered
     ensures serves { ServesOrdered C.sight C.covers C.gives family.old
         (record { request = request_of request.now; moment = moment; answered = result }) family.new }
-    // It tells whose the answer is, unless memory was refused.
+    // The answer names the instance that the request names, unless memory was refused.
     ensures instance { result.answer ≢ answer.Denied (denial.Refused refusal.Memory)
         → result.instance ≡ unwrap_or (instance_of (request_of request.now)) (spec.newest name family.old) }
-    // Its position is one of the journal that is named.
+    // The answer's position is one in the journal that the request names.
     ensures journal { IsSome result.position
         → result.instance ≡ unwrap_or (instance_of (request_of request.now)) (spec.newest name family.old) }
-    // Its numbers are those that identifiers can have.
+    // The answer's numbers are those that identifiers can have.
     ensures identifiers { HasIdentifiers result.answer }
-    // There is a newest one.
+    // The family has a newest member.
     ensures family { IsFamily (map name family.old) }
 {
     let newest = family.newest();

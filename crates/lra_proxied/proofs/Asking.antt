@@ -1,4 +1,4 @@
--- What one who answers does that is asked what a request means.
+-- The answer of a handler that is called with what a request means.
 use Rattle.std.proofs.Common.{ℕ, Option, Result, Ok, Err, inl, inr}
 use Rattle.std.specs.Prelude.{◌⊎◌, IfOk, OnErr}
 use Rattle.lra_wire.specs.declared.request.RequestRead.{RequestRead}
@@ -8,7 +8,7 @@ use Rattle.lra_proxied.specs.Asked.{AnswersSome, LacksSome}
 use Rattle.lra_proxied.specs.inner.Asks.{Asks}
 use Rattle.lra_proxied.specs.inner.Made.{meant_by}
 
--- a request is answered of which this holds, or there was that reason for a lack of memory
+-- a request of which this holds is answered, or memory was refused for that reason
 pub asked : {S E : Type 0} (responds : S → ℕ → Request → Answered → S → Type 0) (is_meant : Request → Type 0)
     (reason : Type 0) (before : S) (moment : ℕ) (own : RequestRead) (made : Result (Option RequestRead) E)
     (answered : Answered) (after : S) → IfOk made (λ other. is_meant (meant_by own other)) → OnErr made reason

@@ -1,4 +1,4 @@
--- The object that a body is, before and after.
+-- The object of a body, before and after.
 use Rattle.std.proofs.Common.{◌≡◌, suc, ℕ, ◌<◌, ◌≤◌, Bool, true, false, List, [], ◌∷◌, length, Option, Some, None}
 use Rattle.std.proofs.Common.{IfSome, MatchOption, String, Global, BTreeMap, string_bytes, string_cmp, Ordering, Less}
 use Rattle.std.proofs.Common.{Equal, Greater, refl, sym, ap, ◌∙◌, subst, arith}
@@ -36,7 +36,7 @@ pub object_empty : (body : List ℕ) (m : BTreeMap (String Global) Value) → le
 object_empty [] m e is = rw (view-Object m, is) (refl, omega arith)
 object_empty (b ∷ rest) m e is = absurd (omega (arith, e))
 
--- ---- a text or a number goes into an object
+-- ---- a text or a number is put into an object
 
 depth-match_ordering : (o : Ordering) (a b c : Members) (n : ℕ) → members_depth a ≤ n → members_depth b ≤ n
     → members_depth c ≤ n → members_depth (match_ordering o a b c) ≤ n
@@ -44,7 +44,7 @@ depth-match_ordering Less a b c n p q r = p
 depth-match_ordering Equal a b c n p q r = q
 depth-match_ordering Greater a b c n p q r = r
 
--- it nests no deeper for it
+-- the object nests no deeper for it
 pub depth-put : (key : List ℕ) (d : Data) (ms : Members) (n : ℕ) → depth d ≡ 0 → members_depth ms ≤ n
     → members_depth (put key d ms) ≤ n
 depth-put key d no_members n flat h = omega (arith, flat)
@@ -62,7 +62,7 @@ object_read : (body : List ℕ) (ms : Members) → IsUtf8 body → read body ≡
 object_read [] ms text e = object_none ms e
 object_read (b ∷ rest) ms text e = rw (is_utf8-from_IsUtf8 (b ∷ rest) text, e) refl
 
--- the body that is written of an object with a text or a number more
+-- the body that is written of an object with one more text or number
 pub body_is : (v : Value) (old new : BTreeMap (String Global) Value) (k body : String Global) (more : Value)
     (key : List ℕ) → v ≡ Object old → string_bytes k ≡ key
     → new.entries ≡ insert_entry string_cmp old.entries k more → depth (view v) ≤ max_depth → depth (view more) ≡ 0

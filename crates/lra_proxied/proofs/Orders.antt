@@ -1,4 +1,4 @@
--- What is asked for by a start that means a limit.
+-- The action that a start which means a limit asks for.
 use Rattle.std.proofs.Common.{◌≡◌, ℕ, ◌<◌, Bool, true, false, true≢false, not, ◌&&◌, ◌==◌, List, codes, Option}
 use Rattle.std.proofs.Common.{Some, None, MatchOption, is_some, unwrap_or, Result, Ok, Err, Ordering, Less, Equal}
 use Rattle.std.proofs.Common.{Greater, nat_cmp, is_eq, bytes_eq, refl, sym, ap, ◌∙◌, subst, arith}
@@ -60,7 +60,7 @@ read_at (Some own) ms e =
     let p = fit_at (members_fit operation.Start own && true) own ms e in
     (ap Some p.1, subst (λ m. members_fit operation.Start m ≡ true) p.1 (and_parts _ _ p.0).0)
 
--- what is read of a body that a start reads
+-- the members that are read of the body of a start
 read_of : (body : List ℕ) (ms : Members) → body_of operation.Start body ≡ Some ms
     → (object_in body ≡ Some ms) × (members_fit operation.Start ms ≡ true)
 unfolding body_of
@@ -141,7 +141,7 @@ asks_so limit i base request meant ms w some start read means h =
     (rw (means.method, means.target) start) read
     (subst (λ o. MatchOption o (meant.body ≡ request.body) (λ m. object_in meant.body ≡ Some m)) members means.body) h
 
--- ---- all else
+-- ---- all other requests
 
 same_parts : (request meant : Request) → MeansParts request.target None request meant → meant ≡ request
 same_parts request meant h =

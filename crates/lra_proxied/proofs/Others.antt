@@ -56,7 +56,7 @@ no_body : (base : List ℕ) (asked : Result Operation Denial) (body : List ℕ) 
 no_body base (Ok r) body = no_key base body (identifier_key r)
 no_body base (Err d) body = refl
 
--- where there is no older base
+-- there is no older base
 pub none_older : (base : List ℕ) (olders : List (List ℕ)) (asked : Result Operation Denial) (body : List ℕ)
     → length olders ≡ 0 → IsOther (other_body base olders asked body) None
 none_older base [] asked body e = rw (no_body base asked body) refl
@@ -111,7 +111,7 @@ body_meant None (Some body) own h = absurd (true≢false (ap is_some h))
 body_meant (Some ms) None own h = absurd h
 body_meant (Some ms) (Some body) own h = h
 
--- a request with another target and another body, as far as there are others
+-- a request with another target and another body, as far as these are given
 pub made : (own : Request) (target : Option (List ℕ)) (members : Option Members) (body : Option (String Global))
     → IsOther members body
     → MeansParts (unwrap_or target own.target) members own (with_others own target (option_map string_bytes body))
@@ -136,7 +136,7 @@ means base olders own target body is other =
     (with_others own (option_map string_bytes target) (option_map string_bytes body))) is
     (made own (option_map string_bytes target) _ body other)
 
--- what a request means wants memory where its target or its body is another
+-- making the meant request takes memory if its target or its body is another
 pub lacks : (base : List ℕ) (olders : List (List ℕ)) (own : Request) (target body : Option (String Global))
     (asked : Result Operation Denial) (bytes : List ℕ)
     → option_map string_bytes target ≡ other_target base own.target → asked

@@ -1,4 +1,4 @@
--- What a text has behind its front.
+-- What follows a prefix in a text.
 use Rattle.std.proofs.Common.{◌≡◌, ◌++◌, ℕ, true, false, nat_eq, List, length, drop, Option, Some, None, option_map}
 use Rattle.std.proofs.Common.{MatchOption, Bor, refl, ap, ◌∙◌}
 use Rattle.std.specs.List.{starts_with}
@@ -12,7 +12,7 @@ begun : (front text : List ℕ) (n : ℕ) → n ≡ length front → text ≡ fr
     ≡ true
 begun front text n len is = (starts_is Decides-eqb text front _ refl).1 _ is
 
--- what is stripped is what stands behind
+-- stripping a prefix leaves what follows it
 pub stripped : (front text : List ℕ) (r : Option (Bor (List ℕ))) → MatchOption r (FindsTextPrefix front text None)
     (λ x. StripsPrefix (FindsTextPrefix front) text x.now)
     → option_map (λ x. x.now) r ≡ behind front text

@@ -1,4 +1,4 @@
--- What starts mean that give no limit.
+-- Starts that give no limit, and mean the default limit.
 use Rattle.std.proofs.Common.{◌≡◌, ℕ, true, false, true≢false, List, codes, Option, Some, None, IfSome, String, Global}
 use Rattle.std.proofs.Common.{string_bytes, refl, sym}
 use Rattle.std.specs.Prelude.{option_map, option_and_then}
@@ -46,7 +46,7 @@ pub lacking_limited : (limit : ℕ) (body : List ℕ) (d more : Data) (other : S
 unfolding limited_at
 lacking_limited limit body d more other is e are h = rw is (lacking limit d more other e are h)
 
--- a start, with the body that its own means
+-- a start, with the body that its own body means
 pub means_limited : (limit : ℕ) (own : Request) (body : Option (String Global)) → may_mean limit own ≡ true
     → IsOther (limited_at limit own.body) body
     → MeansLimited limit own (with_others own None (option_map string_bytes body))

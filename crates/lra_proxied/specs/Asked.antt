@@ -1,4 +1,4 @@
--- Whoever answers, asked the request that another means.
+-- Handler that is called with the request that another means.
 use Rattle.std.specs.Prelude.{◌≡◌, ℕ, None}
 use Rattle.lra_wire.specs.Request.{Request}
 use Rattle.lra_commands.specs.declared.refusal.Refusal.TheVariants as refusal
@@ -13,7 +13,7 @@ pub record AnswersSome {S : Type 0} (responds : S → ℕ → Request → Answer
   pub means : is_meant meant
   pub does : responds before moment meant answered after
 
--- memory was refused, for which there was this reason, and nothing was done
+-- memory was refused, for this reason, and nothing was done
 pub record LacksSome {S : Type 0} (reason : Type 0) (before : S) (answered : Answered) (after : S) : Type 0 where
   pub lacks : reason
   pub answer : answered.answer ≡ answer.Denied (denial.Refused refusal.Memory)

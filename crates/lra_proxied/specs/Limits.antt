@@ -1,4 +1,4 @@
--- Starts that mean a limit which they don't give.
+-- Starts that give no limit, and mean the default limit.
 use Rattle.std.specs.Prelude.{ℕ, Bool, true, false, not, ◌&&◌, ◌==◌, is_none, if◌then◌else◌, List, codes, Option, None}
 use Rattle.std.specs.Prelude.{Result, Ok, option_and_then}
 use Rattle.serde_json.specs.Data.{Members, number, unsigned, put}
@@ -12,29 +12,29 @@ use Rattle.lra_front.specs.Routes.{operation_of}
 use Rattle.lra_front.specs.Bodies.{object_in}
 use Rattle.lra_proxied.specs.Requests.{MeansParts}
 
--- what is asked for is to start
+-- an operation is a start
 abbrev pub starts : Result Operation Denial → Bool
 starts (Ok operation.Start) = true
 starts _ = false
 
--- a request asks to start, and there is a default limit: 0 is none (this project's choice)
+-- a request is a start, and there is a default limit: 0 is none (this project's choice)
 abbrev pub may_mean : ℕ → Request → Bool
 may_mean limit request = not (limit == 0) && starts (operation_of request.method request.target)
 
--- the members with the default limit, where they give no limit; a limit of 0 is given, and so is one that is no number
+-- the members with the default limit, if they give no limit; a limit of 0 is given, and so is one that is no number
 -- (this project's choice)
 abbrev pub limited_members : ℕ → Members → Option Members
 limited_members limit ms = when (is_none (get_member (codes "limit") ms))
     (put (codes "limit") (number (unsigned limit)) ms)
 
--- the members that the body of a start means, where those are others: it is an object (RFC 8259, section 4), or empty
+-- the members that the body of a start means, if those are others: it is an object (RFC 8259, section 4), or empty
 unfoldable pub limited_at : ℕ → List ℕ → Option Members
 limited_at limit body = option_and_then (limited_members limit) (object_in body)
 
--- the members that the body of a request means, where those are others
+-- the members that the body of a request means, if those are others
 abbrev pub limited_body : ℕ → Request → Option Members
 limited_body limit request = if may_mean limit request then limited_at limit request.body else None
 
--- what a request means under a default limit: one that is the same, but for the limit in the body of a start
+-- the request that a request means under a default limit: the same, but for the limit in the body of a start
 abbrev pub MeansLimited : ℕ → Request → Request → Type 0
 MeansLimited limit request meant = MeansParts request.target (limited_body limit request) request meant

@@ -1,4 +1,4 @@
--- What starts come to under a default limit.
+-- The action that a start asks for under a default limit.
 use Rattle.std.specs.Prelude.{◌≡◌, ℕ, ◌<◌, false, if◌then◌else◌, List, codes, is_none, Some, None, MatchOption}
 use Rattle.std.specs.Prelude.{Result, Ok}
 use Rattle.serde_json.specs.Data.{Members}
@@ -14,8 +14,8 @@ use Rattle.lra_front.specs.Bodies.{body_of, text_under}
 use Rattle.lra_front.specs.Wishes.{Asks, IsNamed, limit_in, no_action}
 use Rattle.lra_proxied.specs.Limits.{MeansLimited, may_mean}
 
--- the limit of an action that a start of these members asks for under a default one: that which they give, or else the
--- default
+-- the limit of an action that a start of these members asks for under a default limit: the one that they give, or else
+-- the default
 abbrev pub limit_under : ℕ → Members → ℕ
 limit_under limit ms = if is_none (get_member (codes "limit") ms) then limit else limit_in ms
 
@@ -25,14 +25,14 @@ AsksStart i base ms limit w = MatchOption (text_under (codes "parent") ms)
     (w ≡ Ok (wish.Start None limit))
     (λ uri. IsNamed (action_uri i base) uri no_action (λ parent v. v ≡ Ok (wish.Start (Some parent) limit)) w)
 
--- whichever coordinator is asked what a start means that can be read, it is asked for that action
+-- if the request that a start means can be read, it asks for that action, whichever coordinator is asked
 abbrev pub StartsAskSo : Type 0
 StartsAskSo = (limit i : ℕ) (base : List ℕ) (request meant : Request) (ms : Members) (w : Result Wish Denial)
     → 0 < limit → operation_of request.method request.target ≡ Ok operation.Start
     → body_of operation.Start request.body ≡ Some ms → MeansLimited limit request meant → Asks i base meant w
     → AsksStart i base ms (limit_under limit ms) w
 
--- what isn't a start means itself, and without a default limit all do
+-- a request that isn't a start means itself; without a default limit all requests do
 abbrev pub OthersMeanThemselves : Type 0
 OthersMeanThemselves = (limit : ℕ) (request meant : Request) → may_mean limit request ≡ false
     → MeansLimited limit request meant → meant ≡ request

@@ -1,4 +1,4 @@
-//! The call of a responder by the request that another means.
+//! The call of a handler with the request that another means.
 
 ghost use Rattle.lra_wire.specs.Request.{request_of};
 ghost use Rattle.lra_front.specs.Replies.{HasIdentifiers};
@@ -11,8 +11,8 @@ use lra_steps::{Answered, Responder};
 use lra_wire::RequestRead;
 use std::alloc::Global;
 
-/// Asks a responder what a request means: itself, where it means no other. Nobody is asked where memory was refused in
-/// making that.
+/// Calls a handler with the request that a request means, or with the request itself if it means no other. If memory
+/// was refused in making the meant request, the handler isn't called.
 pub(crate) fn ask<A: Responder>(
     inner: &mut A,
     alloc: Global,

@@ -1,5 +1,4 @@
-//! The object that a body is, with another value under a key; and bodies in which an identifier under an older base
-//! stands.
+//! The object of a body, with another value under a key; and bodies with an identifier under an older base.
 
 ghost use Rattle.std.specs.Prelude.{
   ◌≡◌,
@@ -31,7 +30,7 @@ use serde_json::Value;
 use serde_json::value::Map;
 use std::alloc::Global;
 
-/// The value that a body is, if it is one. An empty body is an object without members.
+/// Reads the value of a body, and returns it if the body is JSON. An empty body is an object without members.
 pub(crate) fn value_in(alloc: Global, body: &[u8]) -> Result<Option<Value>, Memory>
     ensures { IfOk result (Finds body.now) }
 {
@@ -45,7 +44,7 @@ pub(crate) fn value_in(alloc: Global, body: &[u8]) -> Result<Option<Value>, Memo
     }
 }
 
-/// The text that the one under a key of a value means, where that is another.
+/// Returns the text that the text under a key of a value means, if that is another.
 fn other_under(
     alloc: Global,
     base: &str,
@@ -66,7 +65,7 @@ fn other_under(
     }
 }
 
-/// The body with a text or a number under a key of what it is.
+/// Writes the body of a value, with a text or a number put under a key if the value is an object.
 pub(crate) fn body_with(
     alloc: Global,
     value: Value,
@@ -88,7 +87,7 @@ pub(crate) fn body_with(
     }
 }
 
-/// The body that one means that has an identifier under a key, where that is another.
+/// Returns the body that a body with an identifier under a key means, if that is another.
 fn other_at(
     alloc: Global,
     base: &str,
@@ -119,8 +118,8 @@ fn other_at(
     }
 }
 
-/// The body that one means of a request which asks for that, where it is another. Where there is no older base it isn't
-/// looked at.
+/// Returns the body that the body of a request for an operation means, if that is another. If there is no older base,
+/// the body isn't read.
 pub(crate) fn other_body(
     alloc: Global,
     base: &str,

@@ -1,11 +1,11 @@
-//! The parts of the request that is meant: those that differ, and else the request's own.
+//! The parts of the meant request: those that differ, and otherwise copies of the request's own.
 
 ghost use Rattle.std.specs.Prelude.{◌≡◌, option_map, unwrap_or, string_bytes, IfOk};
 
 use lra_model::Memory;
 use std::alloc::Global;
 
-/// A text, or one that is equal to another where there is none.
+/// Returns a text, or a copy of the request's own if there is none.
 pub(crate) fn text_or(alloc: Global, text: Option<String>, own: &str) -> Result<String, Memory>
     ensures { IfOk result (λ chosen. string_bytes chosen ≡ unwrap_or (option_map string_bytes text) own.now) }
 {
@@ -15,7 +15,7 @@ pub(crate) fn text_or(alloc: Global, text: Option<String>, own: &str) -> Result<
     }
 }
 
-/// The bytes of a text, or those where there is none.
+/// Returns the bytes of a text, or a copy of the request's own if there is none.
 pub(crate) fn bytes_or(alloc: Global, text: Option<String>, own: &[u8]) -> Result<Vec<u8>, Memory>
     ensures { IfOk result (λ chosen. chosen.items ≡ unwrap_or (option_map string_bytes text) own.now) }
 {

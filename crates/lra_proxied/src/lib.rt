@@ -1,5 +1,5 @@
-//! Requests that came by a proxy, that name identifiers under an older base, or that start an action and give no limit:
-//! what each means, and who answers them so.
+//! Requests that came by a proxy, that name identifiers under an older base, or that start an action and give no limit.
+//! Filters rewrite each of them to the request that it means, and pass that to a handler.
 #![tactic(auto)]
 
 mod asked;

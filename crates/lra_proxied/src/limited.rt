@@ -1,4 +1,4 @@
-//! A responder to what starts mean that give no limit.
+//! A filter that gives a default limit to starts without a limit.
 
 ghost use Rattle.std.specs.Prelude.{◌≡◌};
 
@@ -10,15 +10,16 @@ use lra_steps::{Answered, Responder};
 use lra_wire::RequestRead;
 use std::alloc::Global;
 
-/// A responder that is asked what each request means under a default limit: a start that gives no limit means the same
-/// with that one. It can't be dropped, but gives back the responder.
+/// Filter that passes to a handler what each request means under a default limit: a start that gives no limit means the
+/// same start with the default limit. It can't be dropped, but returns the handler.
 pub struct Limited<A: Responder> {
     inner: A,
     limit: u64,
 }
 
 impl<A: Responder> Limited<A> {
-    /// Adds a default limit in milliseconds to a responder. A limit of 0 is none: all requests mean themselves then.
+    /// Puts a filter with a default limit in milliseconds round a handler. A limit of 0 is none: all requests mean
+    /// themselves then.
     pub fn new(inner: A, limit: u64) -> Limited<A>
         ensures inner { result.inner ≡ inner }
         ensures limit { result.limit ≡ limit }
@@ -26,7 +27,7 @@ impl<A: Responder> Limited<A> {
         Limited { inner, limit }
     }
 
-    /// Returns the responder.
+    /// Returns the handler.
     pub fn into_inner(self) -> A
         ensures { result ≡ self.inner }
     {

@@ -1,4 +1,4 @@
-//! Starts that mean a limit which they don't give.
+//! Starts that give no limit, and mean the default limit.
 
 ghost use Rattle.std.specs.Prelude.{◌≡◌, codes, is_none, IsTrue, IfOk, OnErr};
 ghost use Rattle.std.specs.Option.{option_map_or};
@@ -19,7 +19,7 @@ use lra_wire::RequestRead;
 use serde_json::Value;
 use std::alloc::Global;
 
-/// Returns whether a request asks to start, and there is a default limit.
+/// Returns whether a request is a start, and there is a default limit.
 fn may_mean(routes: &Routes, limit: u64, request: &RequestRead) -> bool
     ensures { result ≡ spec.may_mean limit (request_of request.now) }
 {
@@ -37,7 +37,7 @@ fn lacks_limit(value: &Value) -> bool
     value.is_object() && value.get("limit").is_none()
 }
 
-/// The body that one means which gives no limit, where it may give one.
+/// Returns the body with the default limit, if a body may give a limit and gives none.
 fn limited_at(alloc: Global, limit: u64, body: &[u8]) -> Result<Option<String>, Memory>
     ensures { IfOk result (IsOther (spec.limited_at limit body.now)) }
 {
@@ -52,7 +52,7 @@ fn limited_at(alloc: Global, limit: u64, body: &[u8]) -> Result<Option<String>, 
     }
 }
 
-/// The request that one means under a default limit, where that isn't itself. Where it is nothing is copied.
+/// Returns the request that a request means under a default limit, if that isn't itself. If it is, nothing is copied.
 pub(crate) fn limited_request(
     alloc: Global,
     routes: &Routes,

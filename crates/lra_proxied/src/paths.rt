@@ -1,4 +1,4 @@
-//! Targets that have the path of a base before them.
+//! Targets that begin with the path of a base.
 
 ghost use Rattle.std.specs.Prelude.{◌≡◌, ◌++◌, bytes_eq, length, nat_eq, option_map, string_bytes, IsSome, IfOk, OnErr};
 ghost use Rattle.std.specs.List.{after_first, starts_with};
@@ -8,7 +8,7 @@ ghost use Rattle.lra_proxied.specs.Paths as spec;
 use lra_model::Memory;
 use std::alloc::Global;
 
-/// Returns whether two texts of one length are the same, in a time that doesn't go with where they differ.
+/// Returns whether two texts of one length are the same, in a time that doesn't depend on where they differ.
 fn is_same(one: &[u8], other: &[u8]) -> bool
     requires { length one.now ≡ length other.now }
     ensures { result ≡ bytes_eq one.now other.now }
@@ -20,8 +20,8 @@ fn is_same(one: &[u8], other: &[u8]) -> bool
     same
 }
 
-/// Returns whether a text begins with a front that may be a secret, in a time that doesn't go with where it differs
-/// from that.
+/// Returns whether a text begins with a prefix that may be a secret, in a time that doesn't depend on where they
+/// differ.
 fn begins_alike(text: &str, front: &str) -> bool
     ensures { result ≡ starts_with nat_eq text.now front.now }
 {
@@ -31,7 +31,7 @@ fn begins_alike(text: &str, front: &str) -> bool
     }
 }
 
-/// Returns what a text has behind a front, where it begins with that.
+/// Returns what follows a prefix in a text, if the text begins with it.
 fn behind<'t>(front: &str, text: &'t str) -> Option<&'t str>
     ensures { option_map (λ rest. rest.now) result ≡ spec.behind front.now text.now }
 {
@@ -42,21 +42,21 @@ fn behind<'t>(front: &str, text: &'t str) -> Option<&'t str>
     }
 }
 
-/// Returns whether a text begins with a front.
+/// Returns whether a text begins with a prefix.
 fn begins_with(text: &str, front: &str) -> bool
     ensures { result ≡ starts_with nat_eq text.now front.now }
 {
     text.starts_with(front)
 }
 
-/// Returns whether a text begins as all paths do that are served, but for their first slash.
+/// Returns whether a text begins as all paths that are served do, but for their first slash.
 fn is_served(text: &str) -> bool
     ensures { result ≡ spec.is_served text.now }
 {
     begins_with(text, "lra-coordinator") || begins_with(text, "lra-recovery")
 }
 
-/// Returns what a text has behind a front, where it begins with that and goes on as a path that is served.
+/// Returns what follows a prefix in a text, if the text begins with it and goes on as a path that is served.
 #[tactic(auto, unfolding(crate::specs::Paths::served_behind))]
 pub(crate) fn served_behind<'t>(front: &str, text: &'t str) -> Option<&'t str>
     ensures { option_map (λ rest. rest.now) result ≡ spec.served_behind front.now text.now }
@@ -75,7 +75,7 @@ fn after_slash(text: &str) -> &str
     }
 }
 
-/// The path of a base, without its first slash: what follows the third slash of its text.
+/// Returns the path of a base, without its first slash: what follows the third slash of the base's text.
 #[tactic(auto, unfolding(crate::specs::Paths::path_of))]
 pub fn path_of(base: &str) -> &str
     ensures { result.now ≡ spec.path_of base.now }
@@ -83,7 +83,7 @@ pub fn path_of(base: &str) -> &str
     after_slash(after_slash(after_slash(base)))
 }
 
-/// Returns what a target has behind a path, where a proxy passed that on.
+/// Returns what follows a path in a target, if a proxy passed the path on.
 fn passed_on<'t>(path: &str, target: &'t str) -> Option<&'t str>
     ensures { option_map (λ rest. rest.now) result ≡ spec.passed_on path.now target.now }
 {
@@ -93,14 +93,14 @@ fn passed_on<'t>(path: &str, target: &'t str) -> Option<&'t str>
     served_behind(path, behind("/", target)?)
 }
 
-/// Returns whether a target isn't behind the path of a base, as a proxy passes it on.
+/// Returns whether a target isn't under the path of the base, as a proxy passes it on.
 pub(crate) fn is_outside(base: &str, target: &str) -> bool
     ensures { result ≡ spec.is_outside base.now target.now }
 {
     passed_on(path_of(base), target).is_none()
 }
 
-/// A text of two parts.
+/// Returns a text of two parts.
 pub(crate) fn joined(alloc: Global, front: &str, rest: &str) -> Result<String, Memory>
     ensures { IfOk result (λ text. string_bytes text ≡ front.now ++ rest.now) }
 {
@@ -110,7 +110,7 @@ pub(crate) fn joined(alloc: Global, front: &str, rest: &str) -> Result<String, M
     Ok(text)
 }
 
-/// The target that one means, where that is another.
+/// Returns the target that a target means, if that is another.
 pub(crate) fn other_target(
     alloc: Global,
     base: &str,

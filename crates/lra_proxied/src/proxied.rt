@@ -1,4 +1,4 @@
-//! A responder to what requests mean.
+//! A filter that passes to a handler what each request means.
 
 ghost use Rattle.std.specs.Prelude.{◌≡◌};
 
@@ -11,9 +11,9 @@ use lra_steps::{Answered, Responder};
 use lra_wire::RequestRead;
 use std::alloc::Global;
 
-/// A responder that is asked what each request means: behind a proxy that passes the path of the base on, and by
-/// identifiers under older bases. A strict one lets requests in by the path of the base alone. It can't be dropped, but
-/// gives back the responder.
+/// Filter that passes to a handler what each request means: behind a proxy that passes the path of the base on, and by
+/// identifiers under older bases. A strict filter accepts requests by the path of the base alone. It can't be dropped,
+/// but returns the handler.
 pub struct Proxied<A: Responder> {
     inner: A,
     olders: Vec<Base>,
@@ -21,8 +21,9 @@ pub struct Proxied<A: Responder> {
 }
 
 impl<A: Responder> Proxied<A> {
-    /// That of one who answers, where identifiers may be under older bases, of which the first counts that one is
-    /// under. A strict one keeps out what isn't behind the path of the base, which is all where that path is `/` alone.
+    /// Puts a filter round a handler. Identifiers may be under older bases: the first base that an identifier is under
+    /// counts. A strict filter denies each request whose target isn't under the path of the base, which is all of them
+    /// if that path is `/` alone.
     pub fn new(inner: A, olders: Vec<Base>, is_strict: bool) -> Proxied<A>
         ensures inner { result.inner ≡ inner }
         ensures olders { result.olders ≡ olders }
@@ -35,7 +36,7 @@ impl<A: Responder> Proxied<A> {
         }
     }
 
-    /// Returns the responder.
+    /// Returns the handler.
     pub fn into_inner(self) -> A
         ensures { result ≡ self.inner }
     {

@@ -1,4 +1,4 @@
-//! The request that one means.
+//! The request that a request means.
 
 ghost use Rattle.std.specs.Prelude.{◌≡◌, option_map, unwrap_or, string_bytes, IfOk, OnErr};
 ghost use Rattle.lra_wire.specs.Request.{request_of};
@@ -14,7 +14,7 @@ use lra_model::Memory;
 use lra_wire::RequestRead;
 use std::alloc::Global;
 
-/// A text, or another in its place.
+/// Returns another text, or the request's own if there is none.
 fn text_of<'t>(other: &'t Option<String>, own: &'t str) -> &'t str
     ensures { result.now ≡ unwrap_or (option_map string_bytes other.now) own.now }
 {
@@ -24,7 +24,7 @@ fn text_of<'t>(other: &'t Option<String>, own: &'t str) -> &'t str
     }
 }
 
-/// A request with another target and another body, as far as there are others.
+/// Returns a copy of a request, with another target and another body as far as these are given.
 pub(crate) fn with_parts(
     alloc: Global,
     request: &RequestRead,
@@ -44,7 +44,7 @@ pub(crate) fn with_parts(
     })
 }
 
-/// The request that one means, where that isn't itself. Where it is nothing is copied.
+/// Returns the request that a request means, if that isn't itself. If it is, nothing is copied.
 pub(crate) fn other_request(
     alloc: Global,
     routes: &Routes,

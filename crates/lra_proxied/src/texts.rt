@@ -8,7 +8,7 @@ use lra_ids::Base;
 use lra_model::Memory;
 use std::alloc::Global;
 
-/// Equal bases.
+/// Copies bases.
 pub fn copy_bases(alloc: Global, bases: &[Base]) -> Result<Vec<Base>, Memory>
     ensures { IfOk result (λ copies. copies.items ≡ bases.now) }
 {
@@ -19,7 +19,7 @@ pub fn copy_bases(alloc: Global, bases: &[Base]) -> Result<Vec<Base>, Memory>
     Ok(copies)
 }
 
-/// Returns what a text has behind the first of several bases that it is under.
+/// Returns what follows the base in a text, for the first of several bases that the text is under.
 fn behind_any<'t>(bases: &[Base], text: &'t str) -> Option<&'t str>
     ensures { option_map (λ rest. rest.now) result ≡ spec.behind_any bases.now text.now }
 {
@@ -31,7 +31,7 @@ fn behind_any<'t>(bases: &[Base], text: &'t str) -> Option<&'t str>
     None
 }
 
-/// The text that an identifier means, where that is another.
+/// Returns the text that an identifier means, if that is another.
 #[tactic(auto, unfolding(crate::specs::Texts::other_text))]
 pub(crate) fn other_text(
     alloc: Global,

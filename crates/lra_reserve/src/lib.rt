@@ -1,4 +1,5 @@
-//! Journals near their end: what would begin something in one is turned away, and all else is answered as ever.
+//! Journals near their end: a request that would begin something in one is turned away, and all others are answered as
+//! before.
 #![tactic(auto)]
 
 mod reserve;

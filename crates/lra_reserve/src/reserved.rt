@@ -1,4 +1,4 @@
-//! A responder that turns away what would begin something in a journal near its end.
+//! A filter that turns away requests that would begin something in a journal near its end.
 
 ghost use Rattle.std.specs.Prelude.{◌≡◌, IfNone, IfSome};
 ghost use Rattle.lra_wire.specs.Request.{request_of};
@@ -15,14 +15,14 @@ use lra_steps::{Answered, Responder};
 use lra_wire::RequestRead;
 use std::alloc::Global;
 
-/// A responder, and the reserve that tells which journals are near their end.
+/// Filter of a handler, with the reserve that reports which journals are near their end.
 #[derive(Drop)]
 pub struct Reserved<A: Responder, K: Reserve> {
     inner: A,
     reserve: K,
 }
 
-/// Returns whether what an operation asks for begins something.
+/// Returns whether an operation begins something.
 fn begins_at(operation: Operation) -> bool
     ensures { result ≡ spec.begins_at operation }
 {
@@ -39,7 +39,7 @@ fn begins(routes: &Routes, request: &RequestRead) -> bool
     }
 }
 
-/// Returns whether a request lets a member join.
+/// Returns whether a request asks that a member join.
 fn is_join(routes: &Routes, request: &RequestRead) -> bool
     ensures { result ≡ spec.is_join (operation_of (request_of request.now).method (request_of request.now).target) }
 {
@@ -57,7 +57,7 @@ impl<A: Responder, K: Reserve> Reserved<A, K> {
         Reserved { inner, reserve }
     }
 
-    /// Returns the denial of a request that is turned away, if it is.
+    /// Returns the API error for a request that is turned away, or nothing if it isn't.
     fn turned_away(&self, alloc: Global, routes: &Routes, request: &RequestRead) -> Option<Answered>
         ensures none { IfNone result (spec.IsLet K.tells (request_of request.now)) }
         ensures some { IfSome result (λ answered. spec.IsTurnedAway K.tells (request_of request.now) answered) }

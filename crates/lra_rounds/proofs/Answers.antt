@@ -16,7 +16,7 @@ use Rattle.lra_rounds.specs.inner.Noting.{KeepsNoted, Notes}
 use Rattle.lra_rounds.proofs.Noted.{keeps_on, keeps_one, keeps_same}
 use Rattle.lra_rounds.specs.inner.Stretches.{AnsweredSome, MayRest}
 
--- what a step, or an answer without its turn, leaves as it was
+-- a step, or an answer without its turn, keeps these
 record Stays (old new : History) : Type 0 where
   turns : new.turns ≡ old.turns
   taken : new.taken ≡ old.taken
@@ -40,7 +40,7 @@ steps_stay (Ended end) old new (inl s) = stays_same old new s.1
 steps_stay (Ended end) old new (inr s) = subst (Stays old) (sym s.2) (record
     { turns = refl; taken = refl; sent = refl; closed = refl; instance = refl; base = refl })
 
--- what an answer to a request leaves as it was, and its turn
+-- an answer to a request keeps these, and adds its turn
 record Turned (old new : History) (turn : Turn) : Type 0 where
   turns : new.turns ≡ old.turns ++ turn ∷ []
   taken : new.taken ≡ old.taken
@@ -66,7 +66,7 @@ module _ {S K : Type 0} (base_of : S → List ℕ) (responds : S → ℕ → Req
 
   -- ---- of one connection
 
-  -- none is answered
+  -- no request is answered
   pub answers_none : (h : History) (v : S) (k : K) → AnswersOf base_of responds tells h h v k v k
   answers_none h v k = record {
     turns = [];
@@ -80,7 +80,7 @@ module _ {S K : Type 0} (base_of : S → List ℕ) (responds : S → ℕ → Req
     base = refl;
   }
 
-  -- some, and then others
+  -- some requests are answered, and then others
   pub answers_on : (h g f : History) (v w x : S) (k l m : K) → AnswersOf base_of responds tells h g v k w l
       → AnswersOf base_of responds tells g f w l x m → AnswersOf base_of responds tells h f v k x m
   answers_on h g f v w x k l m a b = record {
@@ -108,7 +108,7 @@ module _ {S K : Type 0} (base_of : S → List ℕ) (responds : S → ℕ → Req
     base = s.base;
   }
 
-  -- what is answered, with the positions that are noted of it
+  -- requests are answered, and the positions of their answers are noted
   abbrev pub Noting : History → History → S → K → S → K → Positions → Positions → Type 0
   Noting old new v k w l before after = AnswersOf base_of responds tells old new v k w l × KeepsNoted old.turns
       new.turns before after
@@ -121,7 +121,7 @@ module _ {S K : Type 0} (base_of : S → List ℕ) (responds : S → ℕ → Req
   noting_on h g f v w x k l m before mid after a b =
       (answers_on h g f v w x k l m a.0 b.0, keeps_on before mid after h.turns g.turns f.turns a.1 b.1)
 
-  -- a step answers none
+  -- a step answers no request
   pub noting_step : (step : Step) (old new : History) (v : S) (k : K) (ps : Positions) → StepsTo step old new → Noting
       old new v k v k ps ps
   noting_step step old new v k ps s = let stay = steps_stay step old new s in (
@@ -129,7 +129,7 @@ module _ {S K : Type 0} (base_of : S → List ℕ) (responds : S → ℕ → Req
     keeps_same ps old.turns new.turns stay.turns,
   )
 
-  -- nor does one for which memory is refused
+  -- nor does a step for which memory is refused
   pub noting_same : (old new : History) (v : S) (k : K) (ps : Positions) → new ≡ old → Noting old new v k v k ps ps
   noting_same old new v k ps e = let stay = stays_same old new e in (
     answers_still old new v k stay,
@@ -139,7 +139,7 @@ module _ {S K : Type 0} (base_of : S → List ℕ) (responds : S → ℕ → Req
 
   module _ (stays : (before after : S) (moment : ℕ) (request : Request) (answered : Answered)
       → responds before moment request answered after → base_of after ≡ base_of before) where
-    -- the one that stands is answered
+    -- the request that stands is answered
     answers_one : (request : Request) (answered : Answered) (v w : S) (k l : K) (old new : History)
         → Answers responds tells request answered v w k l old new → AnswersOf base_of responds tells old new v k w l
     answers_one request answered v w k l old new a =
@@ -157,7 +157,7 @@ module _ {S K : Type 0} (base_of : S → List ℕ) (responds : S → ℕ → Req
           base = t.base;
         }
 
-    -- where one stands; the answer's position is noted
+    -- if a request stands, it is answered, and the answer's position is noted
     pub answers_standing : (stands : Option Request) (answered : Answered) (v w : S) (k l : K) (old new : History)
         (before after : Positions) → IsSome stands
         → IfSome stands (λ (request : Request). Answers responds tells request answered v w k l old new) → Notes
@@ -192,12 +192,12 @@ module _ {S K : Type 0} (base_of : S → List ℕ) (responds : S → ℕ → Req
   some_of old new v w k l a =
       (length a.turns, record { turns = a.turns; number = refl; chain = a.chain; base = a.same })
 
-  -- the URIs go on to begin so
+  -- the URIs still begin so
   pub base_on : (base : List ℕ) (v w : S) (k l : K) → base_of v ≡ base → AnsweredSome base_of responds tells v k w l
       → base_of w ≡ base
   base_on base v w k l a s = s.1.base ∙ a
 
--- ---- rounds, with rests between them
+-- ---- iterations, with rests between them
 
 module _ {S K : Type 0} (base_of : S → List ℕ) (responds : S → ℕ → Request → Answered → S → Type 0)
     (rests : S → S → Type 0) (tells : K → ℕ → K → Type 0) where
@@ -210,7 +210,7 @@ module _ {S K : Type 0} (base_of : S → List ℕ) (responds : S → ℕ → Req
   course-append v w x k l m (Some turn ∷ xs) ys c d = (c.0, c.1, c.2, c.3, course-append c.0 w x c.1 l m xs ys c.4 d)
   course-append v w x k l m (None ∷ xs) ys c d = (c.0, c.1, course-append c.0 w x k l m xs ys c.2 d)
 
-  -- turns, and a rest behind them or none
+  -- turns, and a rest after them or none
   course-chain : (v w x : S) (k l : K) (turns : List Turn) (ys : List (Option Turn))
       → Chain responds tells v k turns w l → Course responds rests tells w l ys x l
       → Course responds rests tells v k (map Some turns ++ ys) x l
@@ -231,7 +231,7 @@ module _ {S K : Type 0} (base_of : S → List ℕ) (responds : S → ℕ → Req
     base = b.base ∙ a.base;
   }
 
-  -- a round with no rest
+  -- an iteration with no rest
   pub rests_some : (v w : S) (k l : K) → AnsweredSome base_of responds tells v k w l
       → AnsweredWithRests base_of responds rests tells v k w l
   rests_some v w k l a = record {
@@ -240,7 +240,7 @@ module _ {S K : Type 0} (base_of : S → List ℕ) (responds : S → ℕ → Req
     base = a.1.base;
   }
 
-  -- a round, and a rest where there is one
+  -- an iteration, and a rest if there is one
   pub rests_round : ((before after : S) → rests before after → base_of after ≡ base_of before) → (v w x : S) (k l : K)
       → AnsweredSome base_of responds tells v k w l
       → MayRest rests w x → AnsweredWithRests base_of responds rests tells v k x l

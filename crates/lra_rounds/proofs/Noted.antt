@@ -11,7 +11,7 @@ use Rattle.lra_rounds.specs.declared.positions.Positions.{Positions}
 use Rattle.lra_rounds.specs.Waiting.{AllMayGo, AreNoted, IsDurable, IsNoted, MayGo, Reaches, WaitFor}
 use Rattle.lra_rounds.specs.inner.Noting.{Adds, Goes, KeepsNoted, Notes, Settles}
 
--- ---- where there is none
+-- ---- there is no position
 
 reaches_none : (place : Option Position) (instance n : ℕ) → place ≡ None → Reaches place instance n → ⊥
 reaches_none None instance n e h = absurd h
@@ -21,9 +21,9 @@ waits_none : (ps : Positions) (instance n : ℕ) → ps.first ≡ None → ps.ot
 waits_none ps instance n first other (inl h) = absurd (reaches_none ps.first instance n first h)
 waits_none ps instance n first other (inr h) = absurd (reaches_none ps.other instance n other h)
 
--- ---- one more
+-- ---- one more position
 
--- the first
+-- the first position
 pub adds_first : (old : Positions) (p : Position) → old.first ≡ None → old.other ≡ None → Adds old (record {
   first =
       Some p;
@@ -34,7 +34,7 @@ adds_first old p first other = record {
   added = inl (refl, omega arith);
 }
 
--- of the journal of the first
+-- another position in the journal of the first
 pub adds_same : (old : Positions) (p q r : Position) → old.first ≡ Some q → old.other ≡ None → q.instance ≡ p.instance
     → r.instance ≡ q.instance → q.length ≤ r.length → p.length ≤ r.length
     → Adds old (record { first = Some r; other = None }) p
@@ -45,7 +45,7 @@ adds_same old p q r first other same kept more least = record { goes = goes; add
       let k : Reaches (Some q) instance n = subst (λ (o : Option Position). Reaches o instance n) first h in
       inl (kept ∙ k.0, omega (arith, k.1, more))
 
--- of another
+-- a position in another journal
 pub adds_other : (old : Positions) (p q : Position) → old.first ≡ Some q → old.other ≡ None → Adds old (record {
   first
       = Some q;
@@ -56,7 +56,7 @@ adds_other old p q first other = record { goes = goes; added = inr (refl, omega 
   goes instance n (inr h) = absurd (reaches_none old.other instance n other h)
   goes instance n (inl h) = inl (subst (λ (o : Option Position). Reaches o instance n) first h)
 
--- that of an answer
+-- the position of an answer
 pub notes_some : (old new : Positions) (answered : Answered) (n : ℕ) → answered.position ≡ Some n → Adds old new
     (record { instance = answered.instance; length = n }) → Notes old new answered
 notes_some old new answered n e a = record {
@@ -70,7 +70,7 @@ notes_none old answered e = record {
   noted = subst (λ (o : Option ℕ). IfSome o (WaitFor old answered.instance)) (sym e) tt;
 }
 
--- ---- those that are durable
+-- ---- durable positions
 
 -- a position that is reached
 pub durable_below : (keeps : ℕ → ℕ → Bool) (p : Position) (kept instance n : ℕ) → MayLeave (keeps p.instance) p.length
@@ -102,7 +102,7 @@ some_moves keeps old new instance None moves h = tt
 some_moves keeps old new instance (Some n) moves (inl d) = inl d
 some_moves keeps old new instance (Some n) moves (inr w) = moves instance n w
 
--- what is settled stays noted
+-- positions that are settled stay durable or noted
 pub noted_settled : (keeps : ℕ → ℕ → Bool) (old new : Positions) (turns : List Turn) → Settles keeps old new →
     AreNoted keeps old turns → AreNoted keeps new turns
 noted_settled keeps old new [] moves h = tt
@@ -120,7 +120,7 @@ some_durable keeps ps instance None first other h = tt
 some_durable keeps ps instance (Some n) first other (inl d) = d
 some_durable keeps ps instance (Some n) first other (inr w) = absurd (waits_none ps instance n first other w)
 
--- where none waits all are durable
+-- if no position is noted, all are durable
 pub all_durable : (keeps : ℕ → ℕ → Bool) (ps : Positions) (turns : List Turn) → ps.first ≡ None → ps.other ≡ None →
     AreNoted keeps ps turns → AllMayGo keeps turns
 all_durable keeps ps [] first other h = tt
@@ -153,11 +153,11 @@ keeps_one old new turns more turn e notes keeps h =
     (noted_append keeps new turns turn (noted_goes keeps old new turns notes.goes h) (noted_waits keeps new
     turn.answered.instance turn.answered.position notes.noted))
 
--- no turn
+-- no turn is added
 pub keeps_same : (ps : Positions) (turns more : List Turn) → more ≡ turns → KeepsNoted turns more ps ps
 keeps_same ps turns more e keeps h = subst (AreNoted keeps ps) (sym e) h
 
--- some, and then others
+-- some turns are added, and then others
 pub keeps_on : (old mid new : Positions) (turns more most : List Turn) → KeepsNoted turns more old mid → KeepsNoted
     more most mid new → KeepsNoted turns most old new
 keeps_on old mid new turns more most a b keeps h = b keeps (a keeps h)
@@ -181,7 +181,7 @@ pub noted_moved : (keeps : ℕ → ℕ → Bool) (old new : Positions) (turns : 
     AreNoted keeps old turns ∥₁ → ∥ AreNoted keeps new turns ∥₁
 noted_moved keeps old new turns moves h = ∥∥₁_map h (noted_settled keeps old new turns moves)
 
--- where all are settled
+-- if all positions are settled, all turns are durable
 pub durable_all : (keeps : ℕ → ℕ → Bool) (old new : Positions) (turns : List Turn) → Settles keeps old new → new.first
     ≡ None → new.other ≡ None → ∥ AreNoted keeps old turns ∥₁
     → ∥ AllMayGo keeps turns ∥₁

@@ -1,4 +1,4 @@
--- Streams of which no byte was taken, and to which none was written.
+-- Streams from which no byte was read, and to which none was written.
 use Rattle.std.proofs.Common.{ℕ, List, [], append-nil, Option, Some, None, sym, refl, ◌∙◌}
 use Rattle.std.specs.Io.KnownBytes.{Keeps, Appends, Consumes}
 

@@ -7,8 +7,8 @@ use Rattle.lra_steps.specs.Pieces.{Chain, Course}
 
 module _ {S K : Type 0} (base_of : S → List ℕ) (responds : S → ℕ → Request → Answered → S → Type 0)
     (tells : K → ℕ → K → Type 0) where
-  -- Requests of one connection are answered so: they stand behind those that were, no byte came or left, and what is
-  -- replied stands behind what may leave.
+  -- Requests of one connection are answered so: they come after those that were answered before, no byte came or left,
+  -- and their replies come after the bytes that may leave.
   pub record AnswersOf (old new : History) (v : S) (k : K) (w : S) (l : K) : Type 0 where
     pub turns : List Turn
     pub answered : new.turns ≡ old.turns ++ turns
@@ -20,8 +20,8 @@ module _ {S K : Type 0} (base_of : S → List ℕ) (responds : S → ℕ → Req
     pub instance : new.instance ≡ old.instance
     pub base : new.base ≡ old.base
 
--- Some requests are answered one after another, each once, at a moment that the clock tells, with rests between them,
--- from a responder and a clock on to what is known of both afterwards; and nothing else is done.
+-- Some requests are answered one after another, each once, at a moment that the clock gives, with rests between them.
+-- They lead from one state of the handler and the clock to another, and nothing else is done.
 pub record AnsweredWithRests {S K : Type 0} (base_of : S → List ℕ) (responds : S → ℕ → Request → Answered → S → Type 0)
     (rests : S → S → Type 0)
     (tells : K → ℕ → K → Type 0) (v : S) (k : K) (w : S) (l : K) : Type 0 where

@@ -1,4 +1,4 @@
--- What a client's stream gives and takes.
+-- The bytes that a client's stream gives and accepts.
 use Rattle.std.specs.Prelude.{◌≡◌, ℕ, ◌≤◌, Bool, List, [], length, take, Option, Some, None}
 use Rattle.std.specs.Io.KnownBytes.{Appends, Consumes, IsAtEnd, Keeps}
 use Rattle.lra_steps.specs.History.{History, took, finished, went}
@@ -8,16 +8,16 @@ use Rattle.lra_rounds.specs.declared.client.Reading.TheVariants.{Came, Waits as 
 use Rattle.lra_rounds.specs.declared.client.Handing.{Handing}
 use Rattle.lra_rounds.specs.declared.client.Handing.TheVariants.{Went, Waits, Unkept, Done}
 
--- The bytes that came were taken, all and in order; or none came yet; or the stream has ended, and no more will come.
--- No byte is lost.
+-- The bytes that came were accepted, all and in order; or none came yet; or the stream has ended, and no more will
+-- come. No byte is lost.
 abbrev pub Reads : Option (List ℕ) → Option (List ℕ) → History → History → Reading → Type 0
 Reads before after old new Came = (bytes : List ℕ) × Consumes before after bytes × (new ≡ took old bytes)
 Reads before after old new WaitsForBytes = Keeps before after × (new ≡ old)
 Reads before after old new Ended = IsAtEnd after × Keeps before after × (new ≡ finished old)
 Reads before after old new Full = Keeps before after × (new ≡ old)
 
--- A front of the bytes that may be handed out left, while of every turn of the connection the journal of the answer's
--- instance was durable up to the answer's position.
+-- Some first bytes of those that may be handed out left, while for every turn of the connection the journal of the
+-- answer's instance was durable up to the answer's position.
 pub record Leaves (keeps : ℕ → ℕ → Bool) (before after : Option (List ℕ)) (old new : History) : Type 0 where
   pub durable : ∥ AllMayGo keeps old.turns ∥₁
   pub count : ℕ
@@ -32,7 +32,7 @@ HandsOut keeps before after old new Waits = Keeps before after × (new ≡ old)
 HandsOut keeps before after old new Unkept = Keeps before after × (new ≡ old)
 HandsOut keeps before after old new Done = (old.out ≡ []) × Keeps before after × (new ≡ old)
 
--- So many bytes came, and nobody is told of them; at the stream's end there are none.
+-- So many bytes came, and are discarded; at the stream's end there are none.
 abbrev pub ThrowsAway : Option (List ℕ) → Option (List ℕ) → History → History → Option ℕ → Type 0
 ThrowsAway before after old new None = Keeps before after × (new ≡ old)
 ThrowsAway before after old new (Some count) =

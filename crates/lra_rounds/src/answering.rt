@@ -11,25 +11,25 @@ use lra_model::Memory;
 use lra_steps::{Connection, Responder, Step, answer_request};
 use std::alloc::Global;
 
-/// Largest number of requests of one connection that are answered in a round.
+/// Largest number of requests of one connection that are answered in an iteration.
 const MOST_REQUESTS: u64 = 16;
 
-/// Number of bytes of waiting replies from which on no further request is answered.
+/// Number of bytes of waiting replies above which no further request is answered.
 const MOST_WAITING: usize = 65_536;
 
-/// Where a connection stands once its requests have been answered.
+/// State of a connection once its requests have been answered.
 #[derive(Clone, Copy, Debug, PartialEq, Eq)]
 pub enum Stage {
-    /// More bytes are wanted.
+    /// More bytes are needed.
     Wants,
     /// A further request may be whole.
     Goes,
-    /// No request comes any more.
+    /// No further request comes.
     Ended,
 }
 
 /// Returns whether an answer, to a request with a body or without one, may have made something due for the callback
-/// workers: an ask, or a limit of time. A start without a body has no limit.
+/// workers: an ask, or a time limit. A start without a body has no limit.
 fn may_be_due(answer: Answer, has_body: bool) -> bool
     ensures { result ≡ spec.may_be_due answer has_body }
 {
@@ -40,7 +40,7 @@ fn may_be_due(answer: Answer, has_body: bool) -> bool
     }
 }
 
-/// Returns whether the request that stands has a body.
+/// Returns whether the connection's whole request has a body.
 fn has_body(connection: &Connection) -> bool {
     match connection.request() {
         Some(request) => !request.body.is_empty(),
@@ -48,7 +48,8 @@ fn has_body(connection: &Connection) -> bool {
     }
 }
 
-/// Answers the request that stands, and notes the answer's position, and whether it may have made something due.
+/// Answers the connection's whole request. Notes the answer's position, and whether the answer may have made something
+/// due.
 fn answer_standing<A: Responder, K: Clock>(
     alloc: Global,
     routes: &Routes,
@@ -71,8 +72,8 @@ fn answer_standing<A: Responder, K: Clock>(
     *positions = positions.with_answer(answered);
 }
 
-/// Answers the next request, where it is whole and few replies wait, of few journals. Tells otherwise where the
-/// connection stands.
+/// Answers the next request if it is whole, few bytes of replies wait, and these wait for few journals. Otherwise
+/// returns the connection's state.
 fn answer_next<A: Responder, K: Clock>(
     alloc: Global,
     routes: &Routes,
@@ -108,8 +109,8 @@ fn answer_next<A: Responder, K: Clock>(
     }
 }
 
-/// Answers the requests that are whole, a few at most, and tells where the connection stands then. Where memory is
-/// refused, those stand answered that were.
+/// Answers the requests that are whole, a few at most, and returns the connection's state then. If memory is refused,
+/// the answers given so far stand.
 pub(crate) fn answer_some<A: Responder, K: Clock>(
     alloc: Global,
     routes: &Routes,

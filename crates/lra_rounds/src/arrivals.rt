@@ -1,4 +1,4 @@
-//! Where connections come in to a thread that answers them.
+//! The accept queue of a thread that answers connections.
 
 use lra_model::Memory;
 use mio::net::TcpStream;
@@ -9,30 +9,30 @@ use std::net::Net;
 use std::sync::atomic::{AtomicBool, AtomicU64, Ordering};
 use std::sync::{Mutex, Wait};
 
-/// Key of the events of newcomers. No client has that key.
+/// Key of the events of the accept queue. No client has that key.
 pub(crate) const BELL: Token = Token(usize::MAX);
 
-/// State of a thread's door: connections come in, or don't.
+/// State of an accept queue: it accepts connections, or doesn't.
 #[derive(Clone, Copy, Debug, PartialEq, Eq)]
 pub(crate) enum Door {
     Open,
-    /// None come, and the thread ends once no replies wait.
+    /// It accepts none, and the thread ends once no replies wait.
     Closing,
-    /// None come, and the thread ends.
+    /// It accepts none, and the thread ends.
     Closed,
 }
 
 /// State under the lock.
 #[derive(Drop)]
 struct Inner {
-    /// Those that have come, and that the thread hasn't taken yet.
+    /// Connections that the thread hasn't taken yet.
     streams: Vec<TcpStream>,
-    /// Poll that the thread waits for streams with, until it takes that.
+    /// Poll that the thread waits for streams with, until it takes the poll.
     poll: Option<Poll>,
     door: Door,
 }
 
-/// Where connections come in to a thread that answers them. They wait here until the thread takes them.
+/// Accept queue of a thread that answers connections. Connections wait here until the thread takes them.
 #[derive(Drop)]
 pub struct Arrivals {
     inner: Mutex<Inner>,
@@ -40,12 +40,12 @@ pub struct Arrivals {
     bell: Waker,
     /// Number of connections that the thread has.
     clients: AtomicU64,
-    /// Mark of a newcomer that waits for a descriptor.
+    /// Flag that a new connection waits for a descriptor.
     wants_room: AtomicBool,
 }
 
 impl Arrivals {
-    /// Where none has come yet, with what its thread will wait with.
+    /// Makes an empty accept queue, with the poll that its thread will wait with.
     pub fn new<R: Net>(rt: &R, alloc: Global) -> io::Result<Arrivals> {
         let poll = Poll::new(rt)?;
         let bell = Waker::new(poll.registry(), BELL)?;
@@ -61,7 +61,7 @@ impl Arrivals {
         })
     }
 
-    /// Returns how many connections the thread has, or will take; the most where it takes none any more.
+    /// Returns how many connections the thread has or will take, or the greatest number once it takes none any more.
     pub fn load<R: Wait>(&self, rt: &R) -> u64 {
         let inner = self.inner.lock(rt);
         if inner.door != Door::Open {
@@ -71,7 +71,8 @@ impl Arrivals {
         clients.saturating_add(inner.streams.len() as u64)
     }
 
-    /// A connection has come. Where memory is refused, or no more are taken, it is closed.
+    /// Adds a connection to the queue, and wakes the thread. If memory is refused, or the queue accepts none any more,
+    /// the connection is closed.
     pub fn push<R: Wait>(&self, rt: &R, stream: TcpStream) -> Result<(), Memory> {
         let mut inner = self.inner.lock(rt);
         if inner.door != Door::Open {
@@ -82,25 +83,25 @@ impl Arrivals {
             return Err(AllocError);
         }
         drop(inner);
-        // Where it can't be woken, it looks by itself soon.
+        // If the thread can't be woken, it soon polls by itself.
         let _ = self.bell.wake();
         Ok(())
     }
 
-    /// Asks the thread to end the client that has been idle for longest: a newcomer waits, and the system has no
+    /// Asks the thread to end the client that has been idle for longest: a new connection waits, and the system has no
     /// descriptor for it.
     pub fn ask_room(&self) {
         self.wants_room.store(true, Ordering::SeqCst);
         let _ = self.bell.wake();
     }
 
-    /// Returns whether that was asked since the last call.
+    /// Returns whether `ask_room` was called since the last call.
     pub(crate) fn takes_room(&self) -> bool {
         self.wants_room.swap(false, Ordering::SeqCst)
     }
 
-    /// No more come, and the thread reads no more requests: it ends once the replies that wait have left, or 10 s
-    /// after.
+    /// Accepts no more connections, and lets the thread read no more requests: it ends once the replies that wait have
+    /// left, or 10 s after.
     pub fn finish<R: Wait>(&self, rt: &R) {
         let mut inner = self.inner.lock(rt);
         if inner.door == Door::Open {
@@ -110,13 +111,13 @@ impl Arrivals {
         let _ = self.bell.wake();
     }
 
-    /// No more come, and the thread ends.
+    /// Accepts no more connections, and lets the thread end.
     pub fn close<R: Wait>(&self, rt: &R) {
         self.inner.lock(rt).door = Door::Closed;
         let _ = self.bell.wake();
     }
 
-    /// Takes the poll that the thread waits with: the first caller has it.
+    /// Returns the poll that the thread waits with, to the first caller.
     pub(crate) fn take_poll<R: Wait>(&self, rt: &R) -> Option<Poll> {
         self.inner.lock(rt).poll.take()
     }
@@ -125,12 +126,12 @@ impl Arrivals {
         self.inner.lock(rt).door
     }
 
-    /// One of those that have come.
+    /// Takes a connection from the queue.
     pub(crate) fn next<R: Wait>(&self, rt: &R) -> Option<TcpStream> {
         self.inner.lock(rt).streams.pop()
     }
 
-    /// The thread has so many.
+    /// Notes how many clients the thread has.
     pub(crate) fn tell(&self, clients: usize) {
         self.clients.store(clients as u64, Ordering::SeqCst);
     }

@@ -23,12 +23,12 @@ use std::mem;
 use std::net::Shutdown;
 use std::sync::Wait;
 
-/// Why a client can't be served any more.
+/// Reason why a client can't be served any more.
 #[derive(Clone, Copy, Debug, PartialEq, Eq)]
 pub enum ClientFault {
     /// Memory was refused.
     Memory,
-    /// Its stream has failed, or a journal has.
+    /// Its stream or a journal has failed.
     Io,
 }
 
@@ -46,38 +46,38 @@ impl From<AllocError> for ClientFault {
 /// Outcome of reading a client's stream.
 #[derive(Clone, Copy, Debug, PartialEq, Eq)]
 pub enum Reading {
-    /// Some bytes.
+    /// Some bytes came.
     Came,
-    /// None yet.
+    /// None came yet.
     Waits,
-    /// Its end.
+    /// The stream has ended.
     Ended,
-    /// It wasn't asked: there is no room for more.
+    /// The stream wasn't read: there is no room for more.
     Full,
 }
 
 /// Outcome of writing to a client's stream.
 #[derive(Clone, Copy, Debug, PartialEq, Eq)]
 pub enum Handing {
-    /// Some bytes.
+    /// Some bytes were written.
     Went,
-    /// None yet.
+    /// The stream accepts none for now.
     Waits,
-    /// It wasn't asked: a journal isn't durable yet up to the position of an answer.
+    /// Nothing was written: a journal isn't durable yet up to the position of an answer.
     Unkept,
-    /// It wasn't asked: there are none.
+    /// Nothing was written: no replies wait.
     Done,
 }
 
-/// A client, of whose turns each was answered at a journal that is durable up to the answer's position, or is noted up
-/// to there.
+/// Client of a thread. For each of its turns, the journal is durable up to the answer's position, or that position is
+/// noted.
 #[derive(Drop)]
 pub struct Client<S, G: SyncGroup, P: WhichBase> {
     stream: S,
     connection: Connection,
-    /// Positions that have to be durable before a byte leaves of the replies that wait.
+    /// Positions that have to be durable before a byte of the waiting replies leaves.
     positions: Positions,
-    /// An answer may have made something due for the callback workers, since that was asked last.
+    /// An answer may have made something due for the callback workers, since `take_due` was called last.
     is_due: bool,
     of: PhantomData<(P, G)>,
     ghost here: { connection.base ≡ P.base },
@@ -85,7 +85,7 @@ pub struct Client<S, G: SyncGroup, P: WhichBase> {
 }
 
 impl<S, G: SyncGroup, P: WhichBase> Client<S, G, P> {
-    /// One that has just come in.
+    /// Makes a client that has just connected.
     #[tactic(auto, using(crate::proofs::Noted::noted_begun))]
     pub fn new(alloc: Global, stream: S, instance: Instance, base: &Base) -> Client<S, G, P>
         requires { base.now ≡ P.base }
@@ -101,15 +101,15 @@ impl<S, G: SyncGroup, P: WhichBase> Client<S, G, P> {
         }
     }
 
-    /// Returns how many bytes may come, of requests that aren't answered yet.
+    /// Returns how many more bytes there is room for, of requests that aren't answered yet.
     pub fn room(&self) -> usize
         ensures { result ≡ room_of self.now.connection }
     {
         self.connection.room()
     }
 
-    /// Answers the requests that are whole, a few at most and none while many replies wait, and notes the positions of
-    /// their answers: the replies wait for these. Where memory is refused, those stand answered that were.
+    /// Answers the requests that are whole, a few at most and none while many replies wait. Notes the positions of
+    /// their answers: the replies wait for these. If memory is refused, the answers given so far stand.
     #[tactic(auto, using(crate::proofs::Noted::noted_answered))]
     pub fn answer<A: Responder, K: Clock>(
         &mut self,
@@ -134,14 +134,14 @@ impl<S, G: SyncGroup, P: WhichBase> Client<S, G, P> {
         )
     }
 
-    /// Returns whether an answer may have made something due for the callback workers, since that was asked last.
+    /// Returns whether an answer may have made something due for the callback workers, since the last call.
     pub(crate) fn take_due(&mut self) -> bool
         ensures same { (self.new.stream ≡ self.old.stream) × (self.new.connection ≡ self.old.connection) }
     {
         mem::replace(&mut self.is_due, false)
     }
 
-    /// Returns whether all that may be handed out has been.
+    /// Returns whether all replies have been handed out.
     pub fn is_done(&self) -> bool
         ensures { IsTrue result ↔ (self.now.connection.out ≡ []) }
     {
@@ -149,7 +149,7 @@ impl<S, G: SyncGroup, P: WhichBase> Client<S, G, P> {
     }
 }
 
-/// These bytes came, for which there is room.
+/// Adds bytes that came, and for which there is room, to a connection.
 fn take_in(connection: &mut Connection, bytes: &[u8]) -> Result<Reading, ClientFault>
     requires { length bytes.now ≤ room_of connection.old }
     ensures taken { IfOk result (λ reading. (reading ≡ Reading.Came) ×
@@ -164,7 +164,7 @@ fn take_in(connection: &mut Connection, bytes: &[u8]) -> Result<Reading, ClientF
 }
 
 impl<S: Read, G: SyncGroup, P: WhichBase> Client<S, G, P> {
-    /// Reads once, what came and there is room for.
+    /// Reads once, as much as came and there is room for.
     #[tactic(auto, using(crate::proofs::Noted::noted_still))]
     pub fn read(&mut self, buffer: &mut [u8]) -> Result<Reading, ClientFault>
         ensures read { IfOk result (Reads (S.remaining self.old.stream) (S.remaining self.new.stream)
@@ -187,7 +187,7 @@ impl<S: Read, G: SyncGroup, P: WhichBase> Client<S, G, P> {
 }
 
 impl<S: Read, G: SyncGroup, P: WhichBase> Client<S, G, P> {
-    /// Reads once and throws away what came. Returns how many bytes that were, or nothing where none came yet; 0 at the
+    /// Reads once and discards what came. Returns how many bytes that were, or nothing if none came yet; 0 at the
     /// stream's end.
     pub fn discard(&mut self, buffer: &mut [u8]) -> Result<Option<usize>, ClientFault>
         ensures { IfOk result (ThrowsAway (S.remaining self.old.stream) (S.remaining self.new.stream)
@@ -212,7 +212,7 @@ impl<G: SyncGroup, P: WhichBase> Client<TcpStream, G, P> {
 }
 
 impl<S, G: SyncGroup, P: WhichBase> Client<S, G, P> {
-    /// Returns whether every turn's answer is durable. Waits for no sync.
+    /// Returns whether every turn's answer is durable. It waits for no sync.
     #[tactic(auto, using(crate::proofs::Noted::noted_moved, crate::proofs::Noted::durable_all))]
     fn may_leave<R: Wait>(&mut self, rt: &R, group: &G) -> Result<bool, ClientFault>
         ensures durable { IfOk result (λ may. IsTrue may → ∥ AllMayGo G.keeps self.old.connection.turns ∥₁) }
@@ -224,7 +224,7 @@ impl<S, G: SyncGroup, P: WhichBase> Client<S, G, P> {
         }
     }
 
-    /// Syncs the journals that its replies wait for, as far as they do.
+    /// Syncs the journals that its replies wait for, up to the positions of these.
     pub fn sync<R: Wait>(&self, rt: &R, group: &G) -> Result<(), Unkept>
         ensures { OnErr result (IsTrue G.failed) }
     {
@@ -233,7 +233,7 @@ impl<S, G: SyncGroup, P: WhichBase> Client<S, G, P> {
 }
 
 impl<S: Write, G: SyncGroup, P: WhichBase> Client<S, G, P> {
-    /// Hands out once what may be, where of every turn so far the journal is durable up to the answer's position.
+    /// Hands out replies once, if for every turn so far the journal is durable up to the answer's position.
     #[tactic(auto, using(crate::proofs::Noted::noted_still))]
     pub fn hand_out<R: Wait>(&mut self, rt: &R, group: &G) -> Result<Handing, ClientFault>
         ensures handed { IfOk result (HandsOut G.keeps (S.contents self.old.stream) (S.contents self.new.stream)

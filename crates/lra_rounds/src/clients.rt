@@ -21,31 +21,31 @@ use std::collections::VecDeque;
 use std::mem;
 use std::sync::Wait;
 
-/// Largest number of clients that are visited again in a round.
+/// Largest number of clients that are visited again in an iteration.
 const MOST_AGAIN: u64 = 16;
 
-/// The clients of a thread, each under a key, and what is to be done for whom.
+/// Clients of a thread, each under a key, and what is to be done for which client.
 #[derive(Drop)]
 pub(crate) struct Clients<G: SyncGroup, P: WhichBase> {
     alloc: Global,
     times: Times,
     seats: Slab<Seat<G, P>>,
-    /// Until when those that are idle have to begin a request, or to close their streams, as limits; and the others to
-    /// go on with theirs, or with a reply, as retries. What stands here may come too soon: then it is put right (see
-    /// `settle`).
+    /// Ends of the clients' turns. Idle clients have limits: until then they have to begin a request, or to close their
+    /// streams. The others have retries: until then they have to go on with a request, or with a reply. An end may be
+    /// noted too early: then `settle` corrects it.
     agenda: Agenda,
-    /// The keys of those whose streams may be ready.
+    /// Keys of the clients whose streams may be ready.
     ready: Vec<usize>,
-    /// The keys of those to visit again, who have been longest without a visit first.
+    /// Keys of the clients to visit again, those without a visit for longest first.
     again: VecDeque<usize>,
-    /// The keys of those whose replies wait to leave. A key that names nobody any more is passed over.
+    /// Keys of the clients whose replies wait to leave. A key whose client has ended is passed over.
     waiting: Vec<usize>,
-    /// An answer may have made something due for the callback workers, since that was asked last.
+    /// An answer may have made something due for the callback workers, since `take_due` was called last.
     is_due: bool,
 }
 
 impl<G: SyncGroup, P: WhichBase> Clients<G, P> {
-    /// None yet, each of whom will have these times.
+    /// Makes a thread's clients: none yet, each of which will have these time limits.
     pub(crate) fn new(alloc: Global, times: Times) -> Clients<G, P> {
         Clients {
             alloc,
@@ -73,12 +73,12 @@ impl<G: SyncGroup, P: WhichBase> Clients<G, P> {
         !self.waiting.is_empty()
     }
 
-    /// Returns whether the replies of all of them wait to leave, so that no other client can ask for anything.
+    /// Returns whether the replies of all clients wait to leave, so that no other client can ask for anything.
     pub(crate) fn all_wait(&self) -> bool {
         self.waiting.len() >= self.seats.len()
     }
 
-    /// The stream of a key may be ready, and may have come to its end.
+    /// Notes that the stream of a key may be ready, and may have come to its end.
     pub(crate) fn call(&mut self, key: usize, is_closing: bool) {
         let Some(seat) = self.seats.get_mut(key) else {
             return;
@@ -96,8 +96,8 @@ impl<G: SyncGroup, P: WhichBase> Clients<G, P> {
         self.agenda.drop_retry(key as u64);
     }
 
-    /// Makes room for a client under so many: where there are as many, the one that has been idle for longest is ended.
-    /// Tells whether there is room.
+    /// Makes room for another client among at most `most`: if there are that many, ends the client that has been idle
+    /// for longest. Returns whether there is room.
     fn make_room(&mut self, most: usize) -> bool {
         self.seats.len() < most || self.end_idle()
     }
@@ -118,7 +118,7 @@ impl<G: SyncGroup, P: WhichBase> Clients<G, P> {
         false
     }
 
-    /// Returns whether what is noted of a client is the end of its turn.
+    /// Returns whether the turn that is noted of a client is its present one.
     fn is_as_noted(&self, key: usize) -> bool {
         match self.seats.get(key) {
             Some(seat) => seat.noted() == seat.turn(),
@@ -126,7 +126,7 @@ impl<G: SyncGroup, P: WhichBase> Clients<G, P> {
         }
     }
 
-    /// Notes the end of a client's turn anew. Where memory is refused the client is ended.
+    /// Notes the end of a client's turn anew. If memory is refused, ends the client.
     fn settle(&mut self, key: usize) {
         if let Some(seat) = self.seats.get(key) {
             let turn = seat.turn();
@@ -136,7 +136,7 @@ impl<G: SyncGroup, P: WhichBase> Clients<G, P> {
         }
     }
 
-    /// Takes a newcomer in, where there is room for one and memory.
+    /// Accepts a new connection, if there is room and memory for it. Otherwise closes it.
     pub(crate) fn admit(
         &mut self,
         registry: &Registry,
@@ -164,7 +164,7 @@ impl<G: SyncGroup, P: WhichBase> Clients<G, P> {
         self.place(key, now);
     }
 
-    /// Puts a client where its need is seen to, or ends it.
+    /// Lists a client for what it needs next, or ends it.
     fn place(&mut self, key: usize, now: u64) {
         let times = self.times;
         let Some(seat) = self.seats.get_mut(key) else {
@@ -183,7 +183,7 @@ impl<G: SyncGroup, P: WhichBase> Clients<G, P> {
         }
     }
 
-    /// Notes until when a client's turn lasts. Tells whether there was memory for it.
+    /// Notes until when a client's turn lasts. Returns whether there was memory for it.
     fn set_time(&mut self, key: usize, turn: Turn) -> bool {
         if let Some(seat) = self.seats.get_mut(key) {
             seat.note(turn);
@@ -206,7 +206,7 @@ impl<G: SyncGroup, P: WhichBase> Clients<G, P> {
         }
     }
 
-    /// Reads what came of one client, and has its requests answered that are whole.
+    /// Reads what came of one client, and answers its requests that are whole.
     fn serve_one<A: Responder, K: Clock>(
         &mut self,
         means: &Means,
@@ -231,9 +231,9 @@ impl<G: SyncGroup, P: WhichBase> Clients<G, P> {
         }
     }
 
-    /// Reads what came of those whose streams may be ready, and of some of those to visit again, and has their requests
-    /// answered that are whole, a few of each. So one whose request has just come waits for few of those that have more
-    /// to do.
+    /// Reads what came of the clients whose streams may be ready, and of some of those to visit again, and answers
+    /// their requests that are whole, a few of each. So a client whose request has just come waits for few of those
+    /// that have more to do.
     pub(crate) fn serve<A: Responder, K: Clock>(
         &mut self,
         means: &Means,
@@ -258,18 +258,18 @@ impl<G: SyncGroup, P: WhichBase> Clients<G, P> {
         }
     }
 
-    /// Returns whether an answer may have made something due for the callback workers, since that was asked last.
+    /// Returns whether an answer may have made something due for the callback workers, since the last call.
     pub(crate) fn take_due(&mut self) -> bool {
         mem::replace(&mut self.is_due, false)
     }
 
-    /// Returns whether the replies of a client wait to leave, also where its stream takes nothing, or may be on their
-    /// way.
+    /// Returns whether the replies of a client wait to leave, or may be on their way. They wait too while its stream
+    /// accepts nothing.
     pub(crate) fn are_owed(&self) -> bool {
         self.seats.iter().any(|(_, seat)| seat.is_owed())
     }
 
-    /// Sees to a client of whom no request is read any more: what it needs for the replies that it is owed.
+    /// Does what a client needs for the replies that it is owed. No request of it is read any more.
     fn rest_one(&mut self, buffer: &mut [u8], key: usize, now: u64) {
         let Some(seat) = self.seats.get_mut(key) else {
             return;
@@ -282,8 +282,8 @@ impl<G: SyncGroup, P: WhichBase> Clients<G, P> {
         }
     }
 
-    /// Visits nobody any more: of those whose streams may be ready, those whose replies wait to leave, or may be on
-    /// their way, are seen to.
+    /// Does what the clients whose streams may be ready need for the replies that wait to leave, or may be on their
+    /// way. No request is read any more.
     pub(crate) fn rest(&mut self, buffer: &mut [u8], now: u64) {
         let keys = mem::replace(&mut self.ready, Vec::new(self.alloc));
         for key in keys {
@@ -297,7 +297,7 @@ impl<G: SyncGroup, P: WhichBase> Clients<G, P> {
         }
     }
 
-    /// Syncs the journals that replies wait for. One that another client's replies wait for too is synced once.
+    /// Syncs the journals that replies wait for. A journal that the replies of several clients wait for is synced once.
     pub(crate) fn sync<R: Wait>(&self, rt: &R, group: &G) {
         for key in &self.waiting {
             if let Some(seat) = self.seats.get(*key) {
@@ -306,7 +306,7 @@ impl<G: SyncGroup, P: WhichBase> Clients<G, P> {
         }
     }
 
-    /// Hands out what may leave, to those whose replies wait.
+    /// Hands out the replies that may leave, to the clients whose replies wait.
     pub(crate) fn hand_out<R: Wait>(&mut self, rt: &R, group: &G, now: u64) {
         let keys = mem::replace(&mut self.waiting, Vec::new(self.alloc));
         for key in keys {
@@ -320,7 +320,7 @@ impl<G: SyncGroup, P: WhichBase> Clients<G, P> {
         }
     }
 
-    /// Ends those whose turn has lasted too long.
+    /// Ends the clients whose turn has lasted too long.
     pub(crate) fn end_late(&mut self, now: u64) {
         for _late in 0..self.seats.len() {
             let late = self.agenda.first_due(now);
@@ -336,7 +336,7 @@ impl<G: SyncGroup, P: WhichBase> Clients<G, P> {
         }
     }
 
-    /// The first moment that is noted as the end of a turn, if one is.
+    /// Returns the first moment that is noted as the end of a turn, if one is.
     pub(crate) fn first_end(&self) -> Option<u64> {
         let idle = self.end_of(self.agenda.first_due(u64::MAX));
         let busy = self.end_of(self.agenda.next_retry(u64::MAX));

@@ -1,5 +1,5 @@
-//! A thread that answers any number of connections, by readiness: what came is read, the requests that are whole are
-//! answered, and the replies leave once the journals are durable up to the positions of the answers.
+//! An event loop: a thread that answers any number of connections, by readiness. It reads what came and answers the
+//! requests that are whole. The replies leave once the journals are durable up to the positions of the answers.
 #![tactic(auto)]
 
 mod answering;

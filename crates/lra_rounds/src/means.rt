@@ -1,9 +1,9 @@
-//! Means that a thread answers with.
+//! The allocator and the routes of a thread.
 
 use lra_front::Routes;
 use std::alloc::Global;
 
-/// Means that a thread answers with.
+/// Allocator and routes that a thread answers with.
 #[derive(Drop)]
 pub(crate) struct Means {
     pub(crate) alloc: Global,

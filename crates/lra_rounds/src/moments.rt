@@ -1,8 +1,8 @@
-//! The moments of a thread.
+//! The clock of a thread.
 
 use std::time::{Clock, Instant};
 
-/// The steady clock, in milliseconds since a thread began. Where it can't be read it stands still.
+/// Monotonic clock, in milliseconds since a thread began. While it can't be read, it stands still.
 #[derive(Drop)]
 pub(crate) struct Moments<'a, R> {
     rt: &'a R,

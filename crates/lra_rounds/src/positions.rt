@@ -9,14 +9,14 @@ use lra_model::Instance;
 use lra_steps::Answered;
 use std::sync::Wait;
 
-/// A length of the journal of an instance.
+/// Length of the journal of an instance.
 #[derive(Clone, Copy, Debug, PartialEq, Eq)]
 pub struct Position {
     pub instance: Instance,
     pub length: u64,
 }
 
-/// The positions that have to be durable before a client's replies leave: in two journals at most, and the greatest of
+/// Positions that have to be durable before a client's replies leave: in two journals at most, and the greatest of
 /// each.
 #[derive(Clone, Copy, Debug, PartialEq, Eq)]
 pub struct Positions {
@@ -25,7 +25,7 @@ pub struct Positions {
 }
 
 impl Position {
-    /// Returns the position in the same journal that reaches to another length too.
+    /// Returns the position in the same journal with the greater of both lengths.
     fn up_to(self, length: u64) -> Position
         ensures instance { result.instance ≡ self.instance }
         ensures least { (self.length ≤ result.length) × (length ≤ result.length) }
@@ -38,7 +38,7 @@ impl Position {
 }
 
 impl Positions {
-    /// Returns those where no reply waits for a journal.
+    /// Returns no positions: no reply waits for a journal.
     pub fn none() -> Positions
         ensures { (result.first ≡ None) × (result.other ≡ None) }
     {
@@ -48,14 +48,14 @@ impl Positions {
         }
     }
 
-    /// Returns whether no position may be noted in a further journal.
+    /// Returns whether no position in a further journal may be noted.
     pub(crate) fn are_full(&self) -> bool
         ensures { IsFalse result → self.now.other ≡ None }
     {
         self.other.is_some()
     }
 
-    /// Returns them with another one.
+    /// Returns these positions with another one.
     #[tactic(auto, using(crate::proofs::Noted::adds_first, crate::proofs::Noted::adds_same, crate::proofs::Noted::adds_other))]
     fn with(self, position: Position) -> Positions
         requires { self.other ≡ None }
@@ -79,7 +79,7 @@ impl Positions {
         }
     }
 
-    /// Returns them with that of an answer, if it has one.
+    /// Returns these positions with that of an answer, if it has one.
     #[tactic(auto, using(crate::proofs::Noted::notes_some, crate::proofs::Noted::notes_none))]
     pub(crate) fn with_answer(self, answered: Answered) -> Positions
         requires { self.other ≡ None }
@@ -94,7 +94,7 @@ impl Positions {
         }
     }
 
-    /// Forgets those that are durable. Returns whether all are. Waits for no sync.
+    /// Forgets the positions that are durable. Returns whether all are. It waits for no sync.
     pub(crate) fn settle<R: Wait, G: SyncGroup>(
         &mut self,
         rt: &R,
@@ -109,7 +109,7 @@ impl Positions {
         Ok(first && other)
     }
 
-    /// Syncs their journals, as far as they reach.
+    /// Syncs the journals up to these positions.
     pub(crate) fn sync<R: Wait, G: SyncGroup>(&self, rt: &R, group: &G) -> Result<(), Unkept>
         ensures { OnErr result (IsTrue G.failed) }
     {

@@ -1,4 +1,4 @@
-//! The rounds of a thread.
+//! The event loop of a thread.
 
 ghost use Rattle.std.specs.Prelude.{◌≡◌, Some, IsTrue};
 ghost use Rattle.lra_rounds.specs.Answered.{AnsweredWithRests};
@@ -22,36 +22,36 @@ use std::sync::Wait;
 use std::time::Duration;
 use std::{io, time};
 
-/// Largest number of events that a thread is told of at once.
+/// Largest number of events that one poll returns.
 const MOST_EVENTS: usize = 1_024;
 
-/// Number of bytes that are read of a client at once.
+/// Number of bytes of a client that are read at once.
 const PIECE: usize = 16_384;
 
-/// Number of milliseconds that a thread that has nothing to do waits before it looks whether a journal has failed, and
-/// lets its handler rest. So much lies between two rests too.
+/// Number of milliseconds that a thread with nothing to do waits before it checks whether a journal has failed, and
+/// lets its handler rest. It is also the least time between two rests.
 const LOOK: u64 = 250;
 
-/// Number of rounds that replies wait for others to share their sync.
+/// Number of iterations that replies wait for others to share their sync.
 const MOST_ROUNDS: u32 = 4;
 
 /// Largest number of milliseconds that replies wait to leave, once the thread is to end.
 const PARTING: u64 = 10_000;
 
-/// Why a thread has ended.
+/// Reason why an event loop has ended.
 #[derive(Clone, Copy, Debug, PartialEq, Eq)]
 pub enum RoundsEnd {
     /// A journal has failed.
     Unkept,
     /// No more connections come, and no replies wait that could still leave.
     Closed,
-    /// There is no memory for what a thread begins with, or another thread takes what comes in there.
+    /// Memory was refused for what the loop begins with, or another thread has its accept queue.
     Refused,
-    /// The system told no more of its streams.
+    /// The system reported no more events.
     Io,
 }
 
-/// Context that a thread works in.
+/// Event loop: the context that a thread works in.
 #[derive(Drop)]
 pub struct Rounds<'a, R, G: SyncGroup> {
     rt: &'a R,
@@ -60,29 +60,29 @@ pub struct Rounds<'a, R, G: SyncGroup> {
     arrivals: &'a Arrivals,
     /// Wakers of the callback workers: one is woken once something may be due.
     bells: &'a [Waker],
-    /// Largest number of clients that there may be.
+    /// Largest number of clients.
     most: usize,
     times: Times,
 }
 
-/// Poll that a thread waits with, and what the thread has come to know.
+/// Poll that a thread waits with, and the state of its loop.
 #[derive(Drop)]
 struct Watch<'a, R> {
     poll: Poll,
     events: Events,
     buffer: Vec<u8>,
     moments: Moments<'a, R>,
-    /// Number of rounds that replies have waited.
+    /// Number of iterations that replies have waited.
     rounds: u32,
-    /// The callback worker whose turn it is to be woken.
+    /// Callback worker that is woken next.
     turn: usize,
-    /// Until when replies wait to leave, once the thread is to end.
+    /// Moment until which replies wait to leave, once the thread is to end.
     until: Option<u64>,
-    /// Moment from which on the responder rests again.
+    /// Moment from which on the handler rests again.
     rest_from: u64,
 }
 
-/// Lets the responder rest, where that is due after a quiet round.
+/// Lets the handler rest, if that is due after a quiet iteration.
 fn rest<A: Responder>(responder: &mut A, rest_from: &mut u64, now: u64)
     ensures { MayRest A.rests (A.sight responder.old) (A.sight responder.new) }
 {
@@ -93,7 +93,7 @@ fn rest<A: Responder>(responder: &mut A, rest_from: &mut u64, now: u64)
     responder.rest();
 }
 
-/// Whose turn follows, of so many.
+/// Returns the place after `turn`, or 0 after the last of `count` places.
 fn next_turn(turn: usize, count: usize) -> usize {
     let next = turn.saturating_add(1);
     if next < count { next } else { 0 }
@@ -123,7 +123,7 @@ impl<'a, R: Wait + time::Clock, G: SyncGroup> Rounds<'a, R, G> {
         }
     }
 
-    /// Makes what a thread works with beside its clients.
+    /// Makes what a thread works with besides its clients.
     fn watch(&self, poll: Poll) -> Result<Watch<'a, R>, Memory> {
         let events = Events::with_capacity(self.alloc, MOST_EVENTS)?;
         let buffer = vec![in self.alloc; 0u8; PIECE]?;
@@ -139,13 +139,13 @@ impl<'a, R: Wait + time::Clock, G: SyncGroup> Rounds<'a, R, G> {
         })
     }
 
-    /// Wakes a callback worker, each in its turn, where a journal has taken something since then.
+    /// Wakes a callback worker, each in its turn, if anything was appended to a journal since `before`.
     fn ring(&self, before: u64, turn: &mut usize) {
         let Some(bell) = self.bells.get(*turn) else {
             return;
         };
         if self.group.appended(self.rt) > before {
-            // Where it can't be woken, it looks by itself.
+            // If the worker can't be woken, it polls by itself.
             let _ = bell.wake();
             *turn = next_turn(*turn, self.bells.len());
         }
@@ -163,7 +163,7 @@ impl<'a, R: Wait + time::Clock, G: SyncGroup> Rounds<'a, R, G> {
         Duration::from_millis(left)
     }
 
-    /// Notes whose streams may be ready, ends one that is idle where that is asked, and admits new connections.
+    /// Notes which streams may be ready, ends an idle client if that is asked, and accepts new connections.
     fn take_in<P: WhichBase>(
         &self,
         watch: &Watch<'a, R>,
@@ -190,8 +190,8 @@ impl<'a, R: Wait + time::Clock, G: SyncGroup> Rounds<'a, R, G> {
         self.arrivals.tell(clients.len());
     }
 
-    /// Hands out what may leave. Once nothing else is to be done, or replies have waited for some rounds, the journals
-    /// that they wait for are synced, and what may leave then does.
+    /// Hands out the replies that may leave. Once nothing else is to be done, or replies have waited for some
+    /// iterations, syncs the journals that they wait for and hands out the replies that may leave then.
     fn hand_out<P: WhichBase>(
         &self,
         rounds: &mut u32,
@@ -212,7 +212,8 @@ impl<'a, R: Wait + time::Clock, G: SyncGroup> Rounds<'a, R, G> {
         }
     }
 
-    /// A round in which nothing is read any more: replies that wait leave. Tells whether there need be no other.
+    /// Runs an iteration in which no request is read any more: replies that wait leave. Returns whether it is the last
+    /// one.
     fn part<P: WhichBase>(
         &self,
         watch: &mut Watch<'a, R>,
@@ -230,8 +231,8 @@ impl<'a, R: Wait + time::Clock, G: SyncGroup> Rounds<'a, R, G> {
         now >= until || !clients.are_owed()
     }
 
-    /// Reads what came, has the requests answered that are whole, and hands out what may leave. Tells whether nothing
-    /// came, and nobody was to be visited.
+    /// Reads what came, answers the requests that are whole, and hands out the replies that may leave. Returns whether
+    /// nothing came, and no client was to be visited.
     fn serve<A: Responder, K: Clock, P: WhichBase>(
         &self,
         means: &Means,
@@ -257,7 +258,7 @@ impl<'a, R: Wait + time::Clock, G: SyncGroup> Rounds<'a, R, G> {
         is_quiet
     }
 
-    /// One round. Tells why there is no other, if there is none.
+    /// Runs one iteration. Returns why there is no other, if there is none.
     fn go_round<A: Responder, K: Clock, P: WhichBase>(
         &self,
         means: &Means,
@@ -291,7 +292,7 @@ impl<'a, R: Wait + time::Clock, G: SyncGroup> Rounds<'a, R, G> {
         }
     }
 
-    /// One round after another.
+    /// Runs one iteration after another, and returns why the last one has ended.
     fn go_on<A: Responder, K: Clock, P: WhichBase>(
         &self,
         means: &Means,
@@ -313,7 +314,7 @@ impl<'a, R: Wait + time::Clock, G: SyncGroup> Rounds<'a, R, G> {
         unreachable!()
     }
 
-    /// The same, where the URIs begin as that type says.
+    /// Answers the connections as `run` does, if the URIs begin as the type `P` says.
     fn run_at<A: Responder, K: Clock, P: WhichBase>(
         &self,
         responder: &mut A,
@@ -346,9 +347,9 @@ impl<'a, R: Wait + time::Clock, G: SyncGroup> Rounds<'a, R, G> {
         end
     }
 
-    /// Answers the connections that come in, by one responder and one clock, until a journal has failed or no more
-    /// connections come. Whatever happens to one connection, the others are answered. After a round in which nothing
-    /// came the responder rests, four times a second at most.
+    /// Answers the connections that come in, by one handler and one clock, until a journal has failed or no more
+    /// connections come. Whatever happens to one connection, the others are answered. After an iteration in which
+    /// nothing came the handler rests, four times a second at most.
     pub fn run<A: Responder, K: Clock>(&self, responder: &mut A, clock: &mut K) -> RoundsEnd
         ensures answered { AnsweredWithRests A.base_of A.responds A.rests K.tells (A.sight responder.old) clock.old
             (A.sight responder.new) clock.new }

@@ -1,4 +1,4 @@
-//! A client among those of a thread.
+//! The client slot: a client among those of a thread.
 
 ghost use Rattle.std.specs.Prelude.{◌≡◌, if◌then◌else◌};
 ghost use Rattle.lra_rounds.specs.declared.seat.Need.TheVariants.{Rest, Visit};
@@ -16,56 +16,55 @@ use mio::net::TcpStream;
 use std::mem;
 use std::sync::Wait;
 
-/// Largest number of writes to a client's stream in a round.
+/// Largest number of writes to a client's stream in an iteration.
 const MOST_CALLS: u64 = 4;
 
 /// Number of milliseconds that a client has to close its stream, once it has all its replies and no further request of
 /// it is read.
 const LINGER: u64 = 2_000;
 
-/// Number of bytes that are thrown away meanwhile.
+/// Largest number of bytes that are discarded meanwhile.
 const MOST_DISCARDED: usize = 1_048_576;
 
-/// Whose turn it is with a client, and until when.
+/// Turn of a client: what has to happen next, and until when.
 #[derive(Clone, Copy, Debug, PartialEq, Eq)]
 pub(crate) enum Turn {
-    /// The client's, to begin a request.
+    /// The client has to begin a request.
     Begins(u64),
-    /// The client's, to end it.
+    /// The client has to end its request.
     Asks(u64),
-    /// The client's, to take replies.
+    /// The client has to accept replies.
     Takes(u64),
-    /// The client's, to close its stream: what still comes is thrown away. A stream that is closed with bytes unread
+    /// The client has to close its stream: what still comes is discarded. A stream that is closed with bytes unread
     /// loses replies on their way.
     Closes(u64),
-    /// The journals', to be durable up to the positions of its answers.
+    /// The journals have to be durable up to the positions of the client's answers.
     Waits,
 }
 
 /// Next need of a client.
 #[derive(Clone, Copy, Debug, PartialEq, Eq)]
 pub(crate) enum Need {
-    /// That its stream is ready.
+    /// Readiness of its stream.
     Rest,
     /// Another visit.
     Visit,
-    /// That its replies are handed out.
+    /// Handing out of its replies.
     Leave,
-    /// Nothing: it has ended.
+    /// Nothing: the client has ended.
     End,
 }
 
-/// A client, and what is known of its stream and of its time.
+/// Client slot: a client, and what is known of its stream and of its time.
 #[derive(Drop)]
 pub(crate) struct Seat<G: SyncGroup, P: WhichBase> {
     client: Client<TcpStream, G, P>,
     turn: Turn,
-    /// The turn whose end is noted, which may have passed into others that last longer; none is, where it says that the
-    /// disk's is.
+    /// Turn whose end is noted, which may have passed into others that last longer. No end is noted if it is `Waits`.
     noted: Turn,
-    /// Room that it has while nothing of a request has come.
+    /// Room for bytes while nothing of a request has come.
     whole: usize,
-    /// Its stream may have bytes that weren't read.
+    /// Its stream may have bytes that haven't been read.
     may_read: bool,
     /// Its stream comes to its end.
     is_closing: bool,
@@ -73,20 +72,20 @@ pub(crate) struct Seat<G: SyncGroup, P: WhichBase> {
     goes: bool,
     /// No further request comes.
     has_ended: bool,
-    /// Its stream gave its end.
+    /// Its stream was read to its end.
     is_read_out: bool,
-    /// Number of bytes that are still thrown away.
+    /// Number of bytes that may still be discarded.
     left: usize,
-    /// Its stream takes nothing for now.
+    /// Its stream accepts nothing for now.
     is_blocked: bool,
-    /// It is among those to visit.
+    /// It is listed among the clients to visit.
     is_listed: bool,
-    /// It is among those whose replies wait to leave.
+    /// It is listed among those whose replies wait to leave.
     is_waiting: bool,
 }
 
 impl<G: SyncGroup, P: WhichBase> Seat<G, P> {
-    /// One that has just come in.
+    /// Makes the slot of a client that has just connected.
     pub(crate) fn new(client: Client<TcpStream, G, P>) -> Seat<G, P> {
         let whole = client.room();
         Seat {
@@ -110,18 +109,18 @@ impl<G: SyncGroup, P: WhichBase> Seat<G, P> {
         self.turn
     }
 
-    /// The turn whose end is noted.
+    /// Returns the turn whose end is noted.
     pub(crate) fn noted(&self) -> Turn {
         self.noted
     }
 
-    /// The end of that turn is noted.
+    /// Notes the end of a turn.
     pub(crate) fn note(&mut self, turn: Turn) {
         self.noted = turn;
     }
 
-    /// Returns whether the end of its turn has to be noted anew. What is noted may come too soon, but not too late:
-    /// while one idles again and again, or waits for the disk, nothing is.
+    /// Returns whether the end of its turn has to be noted anew. An end may be noted too early, but not too late. So
+    /// nothing is noted while the client idles again and again, or waits for the disk.
     pub(crate) fn is_to_note(&self) -> bool {
         match (self.noted, self.turn) {
             (_, Turn::Waits) => false,
@@ -130,19 +129,19 @@ impl<G: SyncGroup, P: WhichBase> Seat<G, P> {
         }
     }
 
-    /// Its stream may be ready, to be read and to be written, and may have come to its end.
+    /// Notes that its stream may be ready, to be read and to be written, and may have come to its end.
     pub(crate) fn call(&mut self, is_closing: bool) {
         self.may_read = true;
         self.is_closing |= is_closing;
         self.is_blocked = false;
     }
 
-    /// It is among those to visit. Tells whether it wasn't yet.
+    /// Lists it among the clients to visit. Returns whether it wasn't there yet.
     pub(crate) fn list(&mut self) -> bool {
         !mem::replace(&mut self.is_listed, true)
     }
 
-    /// It is among those whose replies wait to leave. Tells whether it wasn't yet.
+    /// Lists it among those whose replies wait to leave. Returns whether it wasn't there yet.
     pub(crate) fn wait(&mut self) -> bool {
         !mem::replace(&mut self.is_waiting, true)
     }
@@ -153,7 +152,7 @@ impl<G: SyncGroup, P: WhichBase> Seat<G, P> {
         let reading = self.client.read(buffer)?;
         self.is_read_out |= reading == Reading::Ended;
         self.may_read = match reading {
-            // Where fewer bytes came than there was room for, there are no others for now.
+            // If fewer bytes came than there was room for, there are no others for now.
             Reading::Came => self.is_closing
                 || before.saturating_sub(self.client.room()) >= before.min(buffer.len()),
             Reading::Full => true,
@@ -162,7 +161,7 @@ impl<G: SyncGroup, P: WhichBase> Seat<G, P> {
         Ok(())
     }
 
-    /// Throws away what came, a piece of it at most.
+    /// Discards what came, a piece of it at most.
     pub(crate) fn discard(&mut self, buffer: &mut [u8]) -> Result<(), ClientFault> {
         if !self.may_read {
             return Ok(());
@@ -177,13 +176,13 @@ impl<G: SyncGroup, P: WhichBase> Seat<G, P> {
         Ok(())
     }
 
-    /// Returns whether it has all its replies, and what still comes is thrown away.
+    /// Returns whether it has all its replies, and what still comes is discarded.
     pub(crate) fn lingers(&self) -> bool {
         matches!(self.turn, Turn::Closes(_))
     }
 
-    /// Returns what it needs once it has all its replies and no further request is read. Its writing side is shut
-    /// first, so that its client reads all of them.
+    /// Returns what it needs once it has all its replies and no further request is read. Shuts its writing side first,
+    /// so that its client reads all of them.
     fn close(&mut self, now: u64) -> Need {
         if self.is_read_out || self.left == 0 {
             return Need::End;
@@ -197,8 +196,8 @@ impl<G: SyncGroup, P: WhichBase> Seat<G, P> {
         need_of(self.may_read)
     }
 
-    /// Reads what came, once all requests before are answered, and has those answered that are whole; but not while
-    /// replies wait to leave.
+    /// Reads what came, once all requests before are answered, and answers those that are whole; but not while replies
+    /// wait to leave.
     pub(crate) fn serve<A: Responder, K: Clock>(
         &mut self,
         means: &Means,
@@ -228,12 +227,12 @@ impl<G: SyncGroup, P: WhichBase> Seat<G, P> {
         Ok(())
     }
 
-    /// Returns whether an answer may have made something due for the callback workers, since that was asked last.
+    /// Returns whether an answer may have made something due for the callback workers, since the last call.
     pub(crate) fn take_due(&mut self) -> bool {
         self.client.take_due()
     }
 
-    /// Hands out what may leave, as often as it may in a round.
+    /// Hands out the replies that may leave, in as many writes as an iteration allows.
     pub(crate) fn hand_out<R: Wait>(&mut self, rt: &R, group: &G) -> Result<(), ClientFault> {
         self.is_waiting = false;
         for _call in 0..MOST_CALLS {
@@ -251,21 +250,21 @@ impl<G: SyncGroup, P: WhichBase> Seat<G, P> {
 
     /// Syncs the journals that its replies wait for.
     pub(crate) fn sync<R: Wait>(&self, rt: &R, group: &G) {
-        // Where it fails, the next round ends.
+        // If it fails, the next iteration ends the loop.
         let _ = self.client.sync(rt, group);
     }
 
-    /// Returns whether replies of it wait to leave, or may be on their way.
+    /// Returns whether replies to it wait to leave, or may be on their way.
     pub(crate) fn is_owed(&self) -> bool {
         !self.client.is_done() || self.lingers()
     }
 
-    /// It isn't among those to visit any more.
+    /// Notes that it isn't listed among the clients to visit any more.
     pub(crate) fn unlist(&mut self) {
         self.is_listed = false;
     }
 
-    /// Returns what it needs next. Where its turn has come to an end the next one begins.
+    /// Returns what it needs next. If its turn has come to an end, the next one begins.
     pub(crate) fn next(&mut self, times: Times, now: u64) -> Need {
         if !self.client.is_done() {
             self.turn = reply_turn(self.turn, self.is_blocked, now.saturating_add(times.reply));
@@ -283,17 +282,16 @@ impl<G: SyncGroup, P: WhichBase> Seat<G, P> {
     }
 }
 
-/// Returns what a client needs that isn't owed anything: another visit where more may be there to be read or a request
-/// to be answered, and else that its stream is ready.
+/// Returns what a client that isn't owed anything needs: another visit if there may be more to read or a request to
+/// answer, and otherwise readiness of its stream.
 fn need_of(is_more: bool) -> Need
     ensures { result ≡ (if is_more then Visit else Rest) }
 {
     if is_more { Need::Visit } else { Need::Rest }
 }
 
-/// The turn of a client whose replies wait to leave, where its stream takes nothing, or a journal isn't durable yet
-/// up to
-/// the position of an answer.
+/// Returns the turn of a client whose replies wait to leave: its stream accepts nothing, or a journal isn't durable yet
+/// up to the position of an answer.
 fn reply_turn(turn: Turn, is_blocked: bool, end: u64) -> Turn {
     match turn {
         Turn::Takes(until) => Turn::Takes(until),
@@ -302,7 +300,7 @@ fn reply_turn(turn: Turn, is_blocked: bool, end: u64) -> Turn {
     }
 }
 
-/// The turn of a client that has taken all its replies, and of whose next request some bytes have come or none.
+/// Returns the turn of a client that has accepted all its replies. Some bytes of its next request have come, or none.
 fn request_turn(turn: Turn, has_begun: bool, times: Times, now: u64) -> Turn {
     match turn {
         Turn::Asks(until) if has_begun => Turn::Asks(until),

@@ -3,10 +3,10 @@
 /// Time limits of a client, in milliseconds.
 #[derive(Clone, Copy, Debug, PartialEq, Eq)]
 pub struct Times {
-    /// Between requests, until the first byte of the next.
+    /// Longest time between requests, until the first byte of the next.
     pub idle: u64,
-    /// In all, from its first byte, until a whole request has come.
+    /// Longest time of a request in all, from its first byte until it is whole.
     pub request: u64,
-    /// In all to take its replies.
+    /// Longest time in all to accept its replies.
     pub reply: u64,
 }

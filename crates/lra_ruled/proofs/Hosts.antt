@@ -10,7 +10,7 @@ use Rattle.std.proofs.lemmas.List.{reverse-append}
 use Rattle.std.proofs.lemmas.List.Folds.{list_any-append}
 use Rattle.lra_rules.specs.Texts.{at_last, host_in}
 
--- two bytes stand behind the last colon
+-- two bytes stand after the last colon
 behind : (a : List ℕ) → suffix_len (λ b. not (b == 58)) (a ++ codes ":80") ≡ 2
 behind a = ap (prefix_len (λ b. not (b == 58))) (reverse-append a (codes ":80"))
 

@@ -1,4 +1,4 @@
--- What a body is that a join reads.
+-- The body that a join reads.
 use Rattle.std.proofs.Common.{◌≡◌, ℕ, ◌<◌, Bool, true, false, List, [], ◌∷◌, length, Option, Some, None, IsSome}
 use Rattle.std.proofs.Common.{is_some, option_and_then, refl, arith}
 use Rattle.std.specs.Str.{is_utf8, IsUtf8}
@@ -29,7 +29,7 @@ unfolding body_of
 empty_body [] e = refl
 empty_body (b ∷ rest) e = absurd (omega (arith, e))
 
--- one that is no JSON isn't read
+-- a body that is no JSON isn't read
 pub unread_body : (body : List ℕ) → 0 < length body → (IsUtf8 body → read body ≡ None) → body_of operation.Join body
     ≡ None
 unfolding body_of
@@ -46,7 +46,7 @@ fitting_is (Some ms) e = by_fit (members_fit operation.Join ms) refl e
     by_fit false fits e = absurd (let h : is_some (option_and_then (fitting operation.Join) (Some ms)) ≡ false =
         rw fits refl in cc)
 
--- what is read fits
+-- a body that is read fits
 pub fitting_body : (body : List ℕ) (d : Data) → 0 < length body → IsUtf8 body → read body ≡ Some d
     → is_some (option_and_then (fitting operation.Join) (as_object d)) ≡ true
     → (body_of operation.Join body ≡ as_object d) × IsSome (as_object d)
@@ -58,7 +58,7 @@ none_of : (o : Option Members) → is_some o ≡ false → o ≡ None
 none_of None e = refl
 none_of (Some ms) e = absurd (cc)
 
--- or doesn't
+-- or it doesn't
 pub other_body : (body : List ℕ) (d : Data) → 0 < length body → IsUtf8 body → read body ≡ Some d
     → is_some (option_and_then (fitting operation.Join) (as_object d)) ≡ false → body_of operation.Join body ≡ None
 unfolding body_of

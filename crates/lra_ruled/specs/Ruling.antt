@@ -1,4 +1,4 @@
--- Which joins are outside the rules.
+-- Joins that are outside the rules.
 use Rattle.std.specs.Prelude.{◌≡◌, ◌≢◌, ℕ, Bool, true, false, not, ◌&&◌, ◌==◌, List, [], ◌++◌, length, codes, Option}
 use Rattle.std.specs.Prelude.{unwrap_or, Result, Ok}
 use Rattle.std.specs.Option.{option_map_or}
@@ -18,8 +18,8 @@ use Rattle.lra_front.specs.Bodies.{body_of, addresses_given}
 
 -- ---- addresses
 
--- the host of an address: its authority without the port, where that names one (RFC 9110, section 7.2); a user's name
--- and password are no part of either
+-- the host of an address: its authority without the port, if that names one (RFC 9110, section 7.2); a user's name and
+-- password are no part of either
 abbrev pub host_of : List ℕ → List ℕ
 host_of address = option_map_or (λ _. host_in (authority_of address)) (port_of address) (authority_of address)
 
@@ -27,19 +27,19 @@ host_of address = option_map_or (λ _. host_in (authority_of address)) (port_of 
 abbrev pub socket_of : List ℕ → List ℕ
 socket_of address = option_map_or (λ _. authority_of address) (port_of address) (authority_of address ++ codes ":80")
 
--- the rules let an address: its host, at its port, which is 80 where it names none (RFC 9110, section 4.2.1)
+-- the rules let an address: its host, at its port, which is 80 if it names none (RFC 9110, section 4.2.1)
 abbrev pub lets : List (List ℕ) → List ℕ → Bool
 lets rules address = let_host rules (host_of address) (unwrap_or (port_of address) 80)
 
--- they let a text: the address that it stands for; one that stands for none is refused elsewhere
+-- the rules let a text: the address that it stands for; one that stands for none is refused elsewhere
 abbrev pub is_let : List (List ℕ) → List ℕ → Bool
 is_let rules text = option_map_or (lets rules) (result_ok (address_of text)) true
 
--- the same, where there is one
+-- the same, if there is a text
 abbrev pub is_let_if : List (List ℕ) → Option (List ℕ) → Bool
 is_let_if rules text = option_map_or (is_let rules) text true
 
--- they let each of a member's addresses
+-- the rules let each of a member's addresses
 abbrev pub are_let : List (List ℕ) → Addresses → Bool
 are_let rules u =
     is_let_if rules u.compensate && is_let_if rules u.complete && is_let_if rules u.status && is_let_if rules u.forget
@@ -52,7 +52,7 @@ abbrev pub is_outside_by : List (List ℕ) → List ℕ → Bool
 is_outside_by rules body = option_map_or (λ ms. not (are_let rules (addresses_given ms))) (body_of operation.Join body)
     false
 
--- what is asked for is to join
+-- an operation is a join
 abbrev pub joins : Result Operation Denial → Bool
 joins (Ok operation.Join) = true
 joins _ = false
@@ -65,8 +65,8 @@ is_join request = joins (operation_of request.method request.target)
 abbrev pub is_outside : List (List ℕ) → Request → Bool
 is_outside rules request = not (length rules == 0) && is_join request && is_outside_by rules request.body
 
--- Why it is refused: it asks to join outside the rules; or memory was refused in reading it, where there are rules and
--- it asks to join.
+-- Why a request is refused: it asks to join outside the rules; or memory was refused in reading it, while there are
+-- rules and it asks to join.
 abbrev pub IsRefusedBy : List (List ℕ) → Request → Refusal → Type 0
 IsRefusedBy rules request refusal.BadAddresses = is_outside rules request ≡ true
 IsRefusedBy rules request refusal.Memory = (rules ≢ []) × (is_join request ≡ true)

@@ -1,4 +1,4 @@
--- A responder that isn't asked for joins outside the rules.
+-- A handler that gets no joins outside the rules.
 use Rattle.std.specs.Prelude.{◌≡◌, ◌⊎◌, ℕ, false, List, None}
 use Rattle.lra_wire.specs.Request.{Request}
 use Rattle.lra_commands.specs.declared.refusal.Refusal.{Refusal}
@@ -7,18 +7,18 @@ use Rattle.lra_front.specs.declared.answer.Answer.TheVariants as answer
 use Rattle.lra_steps.specs.declared.responder.Answered.{Answered}
 use Rattle.lra_ruled.specs.Ruling.{is_outside, IsRefusedBy}
 
--- state of the responder, and the rules
+-- the handler's state, and the rules
 pub record Served (S : Type 0) : Type 0 where
   pub inner : S
   pub rules : List (List ℕ)
 
 module _ {S : Type 0} (responds : S → ℕ → Request → Answered → S → Type 0) where
-  -- a request that isn't outside the rules is answered as it came
+  -- a request that isn't outside the rules is answered by the handler
   abbrev pub Answers : Served S → ℕ → Request → Answered → S → Type 0
   Answers before moment request answered after = (is_outside before.rules request ≡ false)
       × responds before.inner moment request answered after
 
-  -- one that is refused does nothing
+  -- a request that is refused does nothing
   pub record Refuses (before : Served S) (request : Request) (answered : Answered) (after : S) : Type 0 where
     pub refusal : Refusal
     pub why : IsRefusedBy before.rules request refusal
@@ -33,7 +33,7 @@ module _ {S : Type 0} (responds : S → ℕ → Request → Answered → S → T
     pub inner : Answers before moment request answered after.inner ⊎ Refuses before request answered after.inner
 
 module _ {S : Type 0} (rests : S → S → Type 0) where
-  -- what a rest does: that of the responder
+  -- what a rest does: that of the handler; the rules stay
   pub record Rests (before after : Served S) : Type 0 where
     pub rules : after.rules ≡ before.rules
     pub inner : rests before.inner after.inner

@@ -12,7 +12,7 @@ use lra_rules::{Rules, host_in};
 use serde_json::Value;
 use std::alloc::Global;
 
-/// Returns whether rules let an address, by its host and port.
+/// Returns whether the rules let an address, by its host and port.
 fn let_address(rules: &Rules, to: &Address) -> bool
     ensures { result ≡ spec.lets rules.now to.now }
 {
@@ -23,7 +23,7 @@ fn let_address(rules: &Rules, to: &Address) -> bool
     }
 }
 
-/// Returns whether rules let a text. One that is no address is let: it is refused elsewhere.
+/// Returns whether the rules let a text. A text that is no address is let: it is refused elsewhere.
 fn let_text(alloc: Global, rules: &Rules, text: &str) -> Result<bool, Memory>
     ensures { IfOk result (λ told. told ≡ spec.is_let rules.now text.now) }
 {
@@ -40,7 +40,7 @@ fn let_text(alloc: Global, rules: &Rules, text: &str) -> Result<bool, Memory>
     }
 }
 
-/// Returns whether rules let the text under a key of a body, where there is one.
+/// Returns whether the rules let the text under a key of a body, or there is none.
 fn let_under(alloc: Global, rules: &Rules, body: &Value, key: &str) -> Result<bool, Memory>
     ensures { IfOk result (λ told. IfSome (as_object (view body.now)) (λ ms. told
         ≡ spec.is_let_if rules.now (text_under key.now ms))) }
@@ -54,7 +54,7 @@ fn let_under(alloc: Global, rules: &Rules, body: &Value, key: &str) -> Result<bo
     }
 }
 
-/// Returns whether rules let all addresses in the body of a join.
+/// Returns whether the rules let all addresses in the body of a join.
 pub(crate) fn let_all(alloc: Global, rules: &Rules, body: &Value) -> Result<bool, Memory>
     ensures { IfOk result (λ told. IfSome (as_object (view body.now)) (λ ms. told
         ≡ spec.are_let rules.now (addresses_given ms))) }

@@ -50,7 +50,8 @@ fn is_join(value: &Value) -> bool
     }
 }
 
-/// Returns what a body says as that of a join, where it is one. An empty body says nothing.
+/// Reads a body as that of a join, and returns its object. Returns nothing if the body is empty or isn't that of a
+/// join.
 fn joined_in(alloc: Global, body: &[u8]) -> Result<Option<Value>, Memory>
     ensures { IfOk result (IsJoined body.now) }
 {
@@ -68,7 +69,7 @@ fn joined_in(alloc: Global, body: &[u8]) -> Result<Option<Value>, Memory>
     }
 }
 
-/// Returns whether a body is that of a join, and has an address that rules don't let.
+/// Returns whether a body is that of a join, and has an address that the rules don't let.
 pub(crate) fn is_outside(alloc: Global, rules: &Rules, body: &[u8]) -> Result<bool, Memory>
     ensures { IfOk result (λ told. told ≡ spec.is_outside_by rules.now body.now) }
 {

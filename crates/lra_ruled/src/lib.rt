@@ -1,4 +1,4 @@
-//! Joins outside the rules for where members may be: they are refused, and all else is answered as ever.
+//! Joins outside the rules for where members may be: they are refused, and all other requests are answered as before.
 #![tactic(auto)]
 
 mod addresses;

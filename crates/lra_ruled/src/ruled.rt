@@ -1,4 +1,4 @@
-//! A responder that refuses joins outside the rules.
+//! A filter that refuses joins outside the rules.
 
 ghost use Rattle.std.specs.Prelude.{◌≡◌, false, IfNone, IfSome};
 ghost use Rattle.lra_wire.specs.Request.{request_of};
@@ -14,7 +14,7 @@ use lra_steps::{Answered, Responder};
 use lra_wire::RequestRead;
 use std::alloc::Global;
 
-/// A responder, and the rules for where members may be.
+/// Filter of a handler, with the rules for where members may be.
 #[derive(Drop)]
 pub struct Ruled<'r, A> {
     inner: A,
@@ -31,7 +31,7 @@ fn is_join(routes: &Routes, request: &RequestRead) -> bool
     )
 }
 
-/// Why a request isn't let through, if it isn't.
+/// Returns why a request is refused, if it is.
 fn refusal_of(
     alloc: Global,
     routes: &Routes,
@@ -52,7 +52,7 @@ fn refusal_of(
 }
 
 impl<'r, A> Ruled<'r, A> {
-    /// Adds the rules that say where members may be to a responder.
+    /// Puts a filter round a handler, with the rules for where members may be.
     pub fn new(inner: A, rules: &'r Rules) -> Ruled<'r, A>
         ensures inner { result.inner ≡ inner }
         ensures rules { result.rules.now ≡ rules.now }
@@ -60,7 +60,7 @@ impl<'r, A> Ruled<'r, A> {
         Ruled { inner, rules }
     }
 
-    /// Returns the responder.
+    /// Returns the handler.
     pub fn into_inner(self) -> A
         ensures { result ≡ self.entry.inner }
     {

@@ -1,26 +1,27 @@
-//! A file that says whose a journal is.
+//! A file that says which service a journal belongs to.
 
 use lra_files::{SmallFault, read_whole};
 use std::fs::File;
 use std::rt::LibcRuntime;
 use std::sync::Arc;
 
-/// The most bytes that the file may have.
+/// Largest number of bytes that the file may have.
 const LONGEST: u32 = 4_096;
 
-/// A file that says whose a journal is, for as long as it has the bytes that it had at first. Each look opens it by its
-/// name, so that another file in its place is seen. A look needs no runtime.
+/// File that says which service a journal belongs to, for as long as it has the bytes that it had at first. Each check
+/// opens it by its name, so that another file in its place is seen. A check needs no runtime.
 #[derive(Drop)]
 pub struct Fence {
     rt: LibcRuntime,
     path: String,
-    /// The bytes that it had at first.
+    /// Bytes that the file had at first.
     text: Vec<u8>,
 }
 
-/// A runtime by whose files a fence is known.
+/// Runtime that opens fences.
 pub trait Fenced {
-    /// The file of that name, as it is now. One that has more than 4,096 bytes is none.
+    /// Reads the file of that name, and returns a fence that has its present bytes. A file of more than 4,096 bytes is
+    /// no fence.
     fn fence(&self, path: &str) -> Result<Fence, SmallFault>;
 }
 
@@ -47,8 +48,8 @@ impl Fenced for LibcRuntime {
 }
 
 impl Fence {
-    /// Returns whether its file has the bytes that it had at first. One that can't be read, and one for which memory is
-    /// refused, hasn't.
+    /// Returns whether its file has the bytes that it had at first. Returns false if the file can't be read, or memory
+    /// is refused.
     pub fn stands(&self) -> bool {
         match text_at(self.rt, self.path.as_str()) {
             Ok(text) => text.as_slice() == self.text.as_slice(),

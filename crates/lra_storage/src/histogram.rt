@@ -3,15 +3,15 @@
 use std::alloc::{AllocError, Global};
 use std::sync::atomic::{AtomicU64, Ordering};
 
-/// A histogram of amounts: a count for each class, and the sum of all. A class has the amounts up to its end that those
-/// before it don't have, and the last one has no end. The ends are given at each call, and are the same ones.
+/// Histogram of amounts: a count for each class, and the sum of all. A class has the amounts up to its end that those
+/// before it don't have, and the last class has no end. The ends are given at each call, and are always the same ones.
 #[derive(Drop)]
 pub struct Histogram {
     classes: Vec<AtomicU64>,
     sum: AtomicU64,
 }
 
-/// The class of an amount.
+/// Returns the class of an amount.
 fn class_of(ends: &[u64], amount: u64) -> usize {
     for (place, end) in ends.iter().enumerate() {
         if amount <= *end {
@@ -22,7 +22,7 @@ fn class_of(ends: &[u64], amount: u64) -> usize {
 }
 
 impl Histogram {
-    /// Nothing was.
+    /// Makes a histogram of no amounts.
     pub fn new(alloc: Global, ends: &[u64]) -> Result<Histogram, AllocError> {
         let mut classes = Vec::new(alloc);
         for _class in 0..=ends.len() {
@@ -34,7 +34,7 @@ impl Histogram {
         })
     }
 
-    /// Something was so much.
+    /// Adds an amount.
     pub fn add(&self, ends: &[u64], amount: u64) {
         if let Some(class) = self.classes.get(class_of(ends, amount)) {
             class.fetch_add(1, Ordering::SeqCst);

@@ -3,15 +3,15 @@
 use std::rt::LibcRuntime;
 use std::time::Instant;
 
-/// A clock that tells the time and nothing else: code that is handed no runtime can have it.
+/// Clock that reads the time and does nothing else: code that gets no runtime can have it.
 #[derive(Clone, Copy)]
 pub struct Stopwatch {
     rt: LibcRuntime,
 }
 
-/// A runtime by whose clock a stopwatch goes.
+/// Runtime that makes stopwatches.
 pub trait Timed {
-    /// One that goes by it.
+    /// Makes a stopwatch that reads the runtime's clock.
     fn stopwatch(&self) -> Stopwatch;
 }
 
@@ -22,7 +22,7 @@ impl Timed for LibcRuntime {
 }
 
 impl Stopwatch {
-    /// Returns the time, where the clock can be read.
+    /// Returns the time, if the clock can be read.
     pub fn now(&self) -> Option<Instant> {
         Instant::now(&self.rt).ok()
     }

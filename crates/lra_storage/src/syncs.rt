@@ -1,4 +1,4 @@
-//! Syncs of journals: the time that each takes, and the writes that it keeps.
+//! Syncs of journals: the time that each takes, and the writes that it makes durable.
 
 ghost use Rattle.std.specs.Prelude.{◌≡◌, ◌+◌, ◌-◌, ◌^◌, min, cond, nat_eq};
 
@@ -9,33 +9,34 @@ use std::sync::Arc;
 use std::sync::atomic::{AtomicU64, Ordering};
 use std::time::Instant;
 
-/// The ends of the classes of how long a sync takes, in microseconds.
+/// Ends of the classes of how long a sync takes, in microseconds.
 pub const TIMES: [u64; 12] = [
     100, 500, 1_000, 5_000, 10_000, 50_000, 100_000, 500_000, 1_000_000, 5_000_000, 10_000_000,
     30_000_000,
 ];
 
-/// Those of how many writes one keeps.
+/// Ends of the classes of how many writes a sync makes durable.
 pub const WRITES: [u64; 10] = [1, 2, 5, 10, 20, 50, 100, 200, 500, 1_000];
 
-/// The most syncs under way that are told apart. The threads of a service are fewer.
+/// Largest number of syncs under way that are told apart. A service has fewer threads.
 const MOST_UNDER_WAY: usize = 64;
 
-/// Figures of the syncs of a service's journals, of which each has one under way at most.
+/// Figures of the syncs of a service's journals. Each journal has at most one sync under way.
 #[derive(Drop)]
 pub struct Syncs {
     stopwatch: Stopwatch,
-    /// Microseconds that each took.
+    /// Microseconds of each sync that made a write durable.
     times: Histogram,
-    /// Writes that each kept.
+    /// Number of writes that each of these syncs made durable.
     writes: Histogram,
-    /// The moment from which `under_way` counts.
+    /// Moment from which `under_way` counts.
     opened: Option<Instant>,
-    /// When each sync under way began, in milliseconds since then and one more, or 0 in a place that none has.
+    /// Marks of the syncs under way: when each began, in milliseconds since `opened` and one more, or 0 for a free
+    /// place.
     under_way: Vec<AtomicU64>,
 }
 
-/// A sync that is under way: the moment at which it began, and its place, if it has one.
+/// Sync that is under way: the moment at which it began, and its place, if it has one.
 #[derive(Clone, Copy)]
 pub struct Begun {
     moment: Option<Instant>,
@@ -66,7 +67,7 @@ fn age_at(mark: u64, now: u64) -> u64
 }
 
 impl Syncs {
-    /// Returns that of journals of which none was synced.
+    /// Makes the figures of journals of which none was synced.
     pub fn new(alloc: Global, stopwatch: Stopwatch) -> Result<Syncs, AllocError> {
         let mut under_way = Vec::new(alloc);
         for _place in 0..MOST_UNDER_WAY {
@@ -81,17 +82,17 @@ impl Syncs {
         })
     }
 
-    /// Returns the microseconds that each took which kept something.
+    /// Returns the microseconds that each sync took which made a write durable.
     pub fn times(&self) -> &Histogram {
         &self.times
     }
 
-    /// Returns the writes that each of them kept.
+    /// Returns the number of writes that each of these syncs made durable.
     pub fn writes(&self) -> &Histogram {
         &self.writes
     }
 
-    /// Takes down how long it is since a moment, where that can be told.
+    /// Records how long it is since a moment, if the clock can be read.
     fn add_time(&self, began: Option<Instant>) {
         let (Some(began), Some(now)) = (began, self.stopwatch.now()) else {
             return;
@@ -102,12 +103,12 @@ impl Syncs {
         }
     }
 
-    /// Returns how many milliseconds after the first moment it is now, where the clock can be read.
+    /// Returns how many milliseconds have passed since the first moment, if the clock can be read.
     fn passed(&self) -> Option<u64> {
         Some(millis_between(self.opened?, self.stopwatch.now()?))
     }
 
-    /// Returns how many milliseconds the oldest sync that is under way has taken, or 0 where none is.
+    /// Returns how many milliseconds the oldest sync that is under way has taken, or 0 if none is.
     pub fn age(&self) -> u64 {
         let Some(now) = self.passed() else {
             return 0;
@@ -119,7 +120,7 @@ impl Syncs {
         oldest
     }
 
-    /// Takes down that a sync begins, and returns its place, where the clock can be read and a place is free.
+    /// Records that a sync begins, and returns its place, if the clock can be read and a place is free.
     fn note_begin(&self) -> Option<usize> {
         let mark = mark_of(self.passed()?);
         for (place, free) in self.under_way.iter().enumerate() {
@@ -133,14 +134,14 @@ impl Syncs {
         None
     }
 
-    /// Takes down that the sync of a place is under way no more.
+    /// Records that the sync of a place isn't under way any more.
     fn note_end(&self, place: usize) {
         if let Some(mark) = self.under_way.get(place) {
             mark.store(0, Ordering::SeqCst);
         }
     }
 
-    /// Takes down a sync that began then, has ended well, and kept so many writes, if it kept any.
+    /// Records a sync that began then, has succeeded, and made so many writes durable, if it made any.
     fn add(&self, began: Option<Instant>, writes: u64) {
         if writes > 0 {
             self.writes.add(&WRITES, writes);
@@ -149,7 +150,7 @@ impl Syncs {
     }
 }
 
-/// Takes down that a sync begins, where anyone wants to know of it.
+/// Records that a sync begins, if figures are kept.
 pub fn begin(syncs: &Option<Arc<Syncs>>) -> Begun {
     match syncs {
         Some(syncs) => Begun {
@@ -163,7 +164,7 @@ pub fn begin(syncs: &Option<Arc<Syncs>>) -> Begun {
     }
 }
 
-/// Takes down that a sync has ended. It kept so many writes, where it ended well.
+/// Records that a sync has ended. If it succeeded, `kept` is the number of writes that it made durable.
 pub fn end(syncs: &Option<Arc<Syncs>>, begun: Begun, kept: Option<u64>) {
     let Some(syncs) = syncs else {
         return;

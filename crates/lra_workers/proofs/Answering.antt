@@ -1,4 +1,4 @@
--- What answering connections keeps: the counter, and what its clerk has seen.
+-- Properties that answering connections keeps: the counter, and what its clerk has seen.
 use Rattle.std.proofs.Common.{◌≡◌, ℕ, zero, suc, ◌++◌, Result, Ok, Err, Bool, true, false, inl, inr, refl, sym, ◌∙◌}
 use Rattle.std.proofs.Common.{subst, append_assoc}
 use mathlib.Core.List.{IsPrefix}
@@ -20,7 +20,7 @@ use Rattle.lra_front.specs.Streams.{Standing, EndsAt, ServesUpTo, ServesStream}
 use Rattle.lra_office.specs.Stops.{KeepsInTurn}
 use Rattle.lra_workers.specs.Connections.{Connection, ConnectionsIn}
 
--- the counter is the same, and has seen all that it had
+-- the counter is the same, and has seen all that it had seen before
 pub record Keeps (v w : Sight) : Type 0 where
   pub same : IsSameCounter v w
   pub seen : IsPrefix v.seen w.seen
@@ -121,7 +121,7 @@ module _ {K : Type 0} (gives : Sight → ℕ → Order → Result Told CounterFa
   unfolding ConnectionsIn
   one_more n v u w k m l before last = (u, m, before, last)
 
--- those that a window answers
+-- connections that an office answers keep so
 pub keeps_served : {X O K : Type 0} (set : O → Setting) (origin : X → O) (history : X → History) (lawful : X → Type 0)
     (has_stopped : X → Bool) (tells : K → ℕ → K → Type 0) (n : ℕ) (v w : Sight) (k l : K)
     → ConnectionsIn (KeepsInTurn set origin history lawful has_stopped) tells n v k w l → Keeps v w

@@ -1,4 +1,4 @@
--- A worker's calls, and looks ahead between them.
+-- A worker's calls, with looks ahead between them.
 use Rattle.std.proofs.Common.{◌≡◌, ◌≢◌, ℕ, zero, suc, true, inl, inr, refl, sym, subst, Option}
 use Rattle.std.specs.Prelude.{Result, Ok, Err, MatchResult}
 use mathlib.Core.List.{IsPrefix}
@@ -17,12 +17,12 @@ use Rattle.lra_workers.specs.Work.{Post, post, Fails, Works, EndsWork}
 use Rattle.lra_workers.specs.Carrying.{CarriesIn, Carries, CarriesUpTo, EndsCarrying, is_for_memory}
 use Rattle.lra_workers.proofs.Working.{works_none}
 
--- who looks ahead has seen all that it had
+-- a clerk that looks ahead has seen all that it had seen before
 pub foretold_seen : {O : Type 0} (g : Setting) (v w : View O) (next : Option ℕ) → IsForetold g v next w
     → IsPrefix v.seen w.seen
 foretold_seen g v w next h = subst (λ (x : View _). IsPrefix v.seen x.seen) (sym h.after) h.met.begins
 
--- and is told of just what it has seen then
+-- the moment that it gets is that of just what it has seen then
 pub foretold_first : {O : Type 0} (set : O → Setting) (v w : View O) (next : Option ℕ)
     → IsForetold (set v.origin) v next w → IsFirstMoment (set w.origin).limits w.seen next
 foretold_first set v w next h = subst (λ (x : View _). IsFirstMoment (set x.origin).limits x.seen next) (sym h.after)
@@ -34,7 +34,7 @@ pub looked_not_stopped : {O : Type 0} (g : Setting) (v w : View O) (x : OfficeRe
 looked_not_stopped g v w office.Worn h e = absurd cc
 looked_not_stopped g v w (office.Refused r) h e = absurd h
 
--- a refusal that ends who carries for want of memory alone is that one
+-- a refusal that ends a callback worker for lack of memory alone is that one
 pub memory_of : (r : OfficeRefusal) → is_for_memory (Refused r) ≡ true → r ≡ office.Refused Memory
 memory_of office.Worn is = absurd cc
 memory_of (office.Refused Memory) is = refl
@@ -68,7 +68,7 @@ module _ {O K : Type 0} (setting : O → Setting) (gives : ℕ → AskKind → O
     ends_carrying s a b Held more h = carries_on s a b more h
     ends_carrying s a b (Refused r) more h = carries_up_to s a b r more h
 
-    -- a worker's calls are a carrier's
+    -- a worker's calls are calls of a callback worker
     pub carries : {A : Type 0} (s a b : Post O K) (r : Result A WorkerEnd)
         → ((x : Post O K) → Works setting gives tells x a → MatchResult r (λ _. Works setting gives tells x b)
         (λ end. EndsWork setting gives tells x end b))
@@ -96,13 +96,13 @@ module _ {O K : Type 0} (setting : O → Setting) (gives : ℕ → AskKind → O
     looks s v w k (Err office.Worn) h before = (post v k, before, inr (record { clock = refl; told = h }), tt)
     looks s v w k (Err (office.Refused r)) h before = absurd h
 
-    -- a call that is refused for want of memory is passed over
+    -- a call that is refused for lack of memory is passed over
     pub refused : (s a b : Post O K) → Carries setting gives tells s a → Fails setting gives tells a
         (office.Refused Memory) b → Carries setting gives tells s b
     unfolding CarriesIn
     refused s a b before f = (suc before.0, (a, b, before.1, inr f, works_none setting gives tells b))
 
-    -- who has ended for want of memory alone may go on
+    -- a worker that has ended for lack of memory alone may go on
     pub goes_on : (s t : Post O K) (end : WorkerEnd) → is_for_memory end ≡ true
         → EndsCarrying setting gives tells s end t → Carries setting gives tells s t
     goes_on s t Ended is h = h
@@ -112,7 +112,7 @@ module _ {O K : Type 0} (setting : O → Setting) (gives : ℕ → AskKind → O
     goes_on s t (Refused (office.Refused Memory)) is (u, before, inr look, ends) = absurd look.told
     goes_on s t (Refused (office.Refused r)) is h = absurd cc
 
-    -- the calls of one turn, where it goes on after it
+    -- the calls of one turn, if the worker goes on after it
     pub goes_on_turn : (s a b : Post O K) (r : Result (Unit {0}) WorkerEnd) (end : WorkerEnd) → r ≡ Err end
         → is_for_memory end ≡ true
         → ((x : Post O K) → Carries setting gives tells x a → MatchResult r (λ _. Carries setting gives tells x b)

@@ -1,4 +1,4 @@
--- What stays true of the errands that are under way.
+-- Properties that the errands under way keep.
 use Rattle.std.proofs.Common.{◌≡◌, ℕ, zero, suc, Bool, true, false, [], ◌∷◌, ◌++◌, Option, Some, None, inl, inr, refl}
 use Rattle.std.proofs.Common.{sym, ap, ◌∙◌, subst, append_assoc, append-nil}
 use Rattle.std.specs.Prelude.{◌==◌, Result, Ok, Err, MatchResult}
@@ -111,12 +111,12 @@ module _ {O K : Type 0} (setting : O → Setting) (gives : ℕ → AskKind → O
     worked_in (suc n) s t (u, before, inr f) = prefix_trans s.view.seen u.view.seen t.view.seen (worked_in n s u before)
         (refused_seen u.view t.view f.call f.given)
 
-    -- whoever works has seen all that it had
+    -- a worker has seen all that it had seen before
     pub worked : (s t : Post O K) → ((r : Post O K) → Works setting gives tells r s → Works setting gives tells r t)
         → IsPrefix s.view.seen t.view.seen
     worked s t h = let w = h s (works_none setting gives tells s) in worked_in w.0 s t w.1
 
-    -- nor does a refusal take anything away of it
+    -- a refusal takes away nothing of what a worker has seen
     not_given : (g : Setting) (v w : View O) (c : Call) (r : OfficeRefusal) → IsNotGiven g v c r w
         → IsPrefix v.seen w.seen
     not_given g v w c office.Worn h = subst (λ (x : View O). IsPrefix v.seen x.seen) (sym h) (prefix_refl v.seen)
@@ -159,14 +159,14 @@ module _ {O K : Type 0} (setting : O → Setting) (gives : ℕ → AskKind → O
     ended_seen s t (Refused r) (u, before, inr look, ends) = prefix_trans s.view.seen u.view.seen t.view.seen
         (carries_seen s u before) (foreseen (setting u.view.origin) u.view t.view (Err r) look.told)
 
-    -- whoever carries has seen all that it had, however that ended
+    -- a callback worker has seen all that it had seen before, however its work ended
     pub carried : {A : Type 0} (s t : Post O K) (r : Result A WorkerEnd)
         → ((x : Post O K) → Carries setting gives tells x s → MatchResult r (λ _. Carries setting gives tells x t)
         (λ end. EndsCarrying setting gives tells x end t)) → IsPrefix s.view.seen t.view.seen
     carried s t (Ok y) h = carries_seen s t (h s (carries_none setting gives tells s))
     carried s t (Err end) h = ended_seen s t end (h s (carries_none setting gives tells s))
 
-    -- the same of a worker's calls
+    -- the same for a worker's calls
     pub worked_up_to : {A : Type 0} (s t : Post O K) (r : Result A OfficeRefusal)
         → ((x : Post O K) → Works setting gives tells x s → MatchResult r (λ _. Works setting gives tells x t)
         (λ e. WorksUpTo setting gives tells x e t)) → IsPrefix s.view.seen t.view.seen

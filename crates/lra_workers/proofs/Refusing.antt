@@ -1,4 +1,4 @@
--- Why a worker's calls are refused.
+-- The reasons why a worker's calls are refused.
 use Rattle.std.proofs.Common.{◌≡◌, ◌≢◌, ℕ, zero, suc, ◌≤◌, Bool, true, false, List, [], ◌∷◌, ◌++◌, length, Option, Some}
 use Rattle.std.proofs.Common.{None, inl, inr, refl, sym, ap, ◌∙◌, subst, append-nil}
 use Rattle.std.specs.Prelude.{◌⊎◌, ◌&&◌, ◌+◌, not, option_map, IfSome, Ok, Err}
@@ -136,9 +136,9 @@ adds_none gives K s J m (command.Renew action limit) h = absurd h
 adds_none gives K s J m (command.Status action) h = absurd h
 adds_none gives K s J m (command.MemberStatus member) h = absurd h
 
--- ---- what there may be too much of
+-- ---- limits on what there may be
 
--- of clerks, actions and members there aren't too many
+-- there aren't too many clerks, actions and members
 record IsRoomy (s : Terms) (J : History) (c : Call) : Type 0 where
   pub clerks : overfills s J c resource.Clerks ≡ false
   pub actions : overfills s J c resource.Actions ≡ false
@@ -169,9 +169,9 @@ roomy s J c w none = record {
       (block_over (λ (x : Entry). joined_by x.deed) no_member s J c none))) w.members));
 }
 
--- ---- why it is refused
+-- ---- why a call is refused
 
--- who gives it is no clerk, or it records what isn't asked, or there are too many entries
+-- the one that gives the call is no clerk, or it records what isn't asked, or there are too many entries
 abbrev Why : Bool → Bool → Refusal → Type 0
 Why stranger unasked r = ((r ≡ refusal.NoSuchClerk) × (stranger ≡ true))
     ⊎ (((r ≡ refusal.NotAsked) × (unasked ≡ true)) ⊎ (r ≡ refusal.Full resource.Entries))
@@ -193,7 +193,7 @@ refused_with : (o : Option Refusal) (t : Told) (r : Refusal) → option_map_or E
 refused_with None t r e = absurd cc
 refused_with (Some q) t r e = let same : q ≡ r = cc in ap Some same
 
--- whether a command records what came of an ask that isn't outstanding
+-- a command records what came of an ask that isn't outstanding
 abbrev pub unasked : History → Command → Bool
 unasked J (command.Record errand outcome) = not (is_asked J errand.now)
 unasked J _ = false
@@ -227,7 +227,7 @@ why gives K s J by m (command.Renew action limit) r h room e = absurd h
 why gives K s J by m (command.Status action) r h room e = absurd h
 why gives K s J by m (command.MemberStatus member) r h room e = absurd h
 
--- who is no clerk has written nothing
+-- a number that is no clerk's has written nothing
 written_none : {O : Type 0} (g : Setting) (v : View O) (J : History) (by : ℕ) → by ≡ v.number → IsMet g v J
     → not (is_among (clerks J) by) ≡ true → v.mine ≡ []
 written_none g v J by is met stranger =
@@ -238,7 +238,7 @@ written_none g v J by is met stranger =
     turned true h = absurd cc
     turned false h = refl
 
--- a refusal ends a worker, or says that what it records isn't asked
+-- a refusal ends a worker, or reports that what it records isn't asked
 abbrev EndsOr : Bool → Refusal → Type 0
 EndsOr x r = EndsWorker (office.Refused r) ⊎ ((r ≡ refusal.NotAsked) × (x ≡ true))
 
@@ -272,7 +272,7 @@ ends gives g v w c (office.Refused r) (J, met, back, after) is known own other =
     either (inl e) = e
     either (inr (late, x)) = absurd (other (ap office.Refused late))
 
--- what isn't recorded isn't refused so
+-- a call that records nothing isn't refused so
 pub never_late : {O : Type 0} (gives : ℕ → AskKind → Outcome → Type 0) (g : Setting) (v w : View O) (c : Call)
     (r : OfficeRefusal) → IsNotGiven g v c r w → c.by ≡ v.number → v.number ≢ 0
     → IsWorkersCommand gives v.seen c.command

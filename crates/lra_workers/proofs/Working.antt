@@ -32,7 +32,7 @@ given_of_ask law g v w c t o e is h some =
     subst (λ (J : History). IsOfAsk J e) (sym (ap (λ (x : View _). x.seen) h.after ∙ h.done.grown))
     (law g h.history c t e k.limits k.lawful is h.done.answered (sym h.done.errand ∙ some))
 
--- the same, of what a call for an errand answers
+-- the same, for the errand that a call returns
 pub asked_of_ask : {O : Type 0} → ErrandsAreOfAsks → (g : Setting) (v w : View O) (c : Call)
     (r : Result (Option Asking) OfficeRefusal) → IsCall c → IsErrand g v c r w
     → IfOk r (λ o. IfSome o (λ e. IsOfAsk w.seen e))
@@ -40,7 +40,7 @@ asked_of_ask law g v w c (Ok None) is h = tt
 asked_of_ask law g v w c (Ok (Some e)) is h = given_of_ask law g v w c h.0 (Some e) e is h.1 refl
 asked_of_ask law g v w c (Err r) is h = tt
 
--- what a courier may answer of an errand is recorded
+-- a courier's possible answer to an errand is recorded
 recording_is_own : (gives : ℕ → AskKind → Outcome → Type 0) (J : History) (e : Asking) (o : Outcome) (c : Command)
     → IsRecording e o c → IsOfAsk J e → gives e.ask e.kind o → IsWorkersCommand gives J c
 recording_is_own gives J e o (command.Record errand outcome) h is has = (
@@ -156,7 +156,7 @@ module _ {O K : Type 0} (setting : O → Setting) (gives : ℕ → AskKind → O
               f.own.command h.0,
         )
 
--- what a refusal that ends a worker tells is told by the end
+-- the end reports what a refusal that ends a worker reports
 pub refusal_tells : (is_shut : Type 0) (holds : ℕ → Type 0) (has_stopped : Type 0) (J : History) (x : OfficeRefusal)
     (r : Result (Unit {0}) WorkerEnd)
     → MatchResult r (λ _. x ≡ office.Refused NotAsked) (λ end. (x ≢ office.Refused NotAsked) × (end ≡ worker.Refused x))

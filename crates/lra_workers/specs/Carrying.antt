@@ -1,4 +1,5 @@
--- What a worker does that has many errands under way: it looks ahead too, and goes on where memory is refused.
+-- The calls of a callback worker, which has many errands under way: it looks ahead too, and goes on if memory is
+-- refused.
 use Rattle.std.specs.Prelude.{◌≡◌, ◌⊎◌, ℕ, zero, suc, Bool, true, false, Option, Result, Ok, Err}
 use Rattle.lra_model.specs.declared.asks.AskKind.{AskKind}
 use Rattle.lra_model.specs.declared.asks.Outcome.{Outcome}
@@ -11,7 +12,7 @@ use Rattle.lra_workers.specs.declared.worker.WorkerEnd.{WorkerEnd}
 use Rattle.lra_workers.specs.declared.worker.WorkerEnd.TheVariants.{Ended, Held, Refused}
 use Rattle.lra_workers.specs.Work.{Post, Fails, Works, EndsWorker}
 
--- a worker has ended for want of memory alone
+-- a worker has ended only because memory was refused
 abbrev pub is_for_memory : WorkerEnd → Bool
 is_for_memory (Refused (office.Refused Memory)) = true
 is_for_memory _ = false
@@ -23,7 +24,7 @@ module _ {O K : Type 0} (setting : O → Setting) (gives : ℕ → AskKind → O
       pub clock : t.clock ≡ s.clock
       pub told : IsLookedAhead (setting s.view.origin) s.view r t.view
 
-    -- it is told of that moment, or a call of its is refused for want of memory
+    -- it gets that moment, or a call of its is refused for lack of memory
     abbrev pub GoesOn : Post O K → Post O K → Type 0
     GoesOn s t = ((next : Option ℕ) × LooksAhead s (Ok next) t) ⊎ Fails setting gives tells s (office.Refused Memory) t
 
@@ -34,11 +35,11 @@ module _ {O K : Type 0} (setting : O → Setting) (gives : ℕ → AskKind → O
         × Works setting gives tells v t
 
     -- it gives a worker's calls, and no others, looks ahead between them, and passes over those that are refused for
-    -- want of memory
+    -- lack of memory
     abbrev pub Carries : Post O K → Post O K → Type 0
     Carries s t = (n : ℕ) × CarriesIn n s t
 
-    -- it does so up to a call that fails for one of a worker's reasons, or up to where no ticket is left to look ahead
+    -- it does so up to a call that fails for one of a worker's reasons, or until no ticket is left to look ahead
     abbrev pub CarriesUpTo : Post O K → OfficeRefusal → Post O K → Type 0
     CarriesUpTo s r t = (u : Post O K) × Carries s u × (Fails setting gives tells u r t ⊎ LooksAhead u (Err r) t)
         × EndsWorker r

@@ -12,7 +12,7 @@ use Rattle.lra_office.specs.Clerks.{clerk_view}
 use Rattle.lra_workers.specs.declared.connections.ServeEnd.{ServeEnd}
 use Rattle.lra_workers.specs.declared.connections.ServeEnd.TheVariants.{Done, Io}
 
--- what is known of a counter at which a clerk gives its orders
+-- the sight of a counter at which a clerk gives its orders
 abbrev pub clerk_sight : {X O : Type 0} {g : Ghosts X O} → (O → Setting) → Clerk X O g → Sight
 clerk_sight setting c = record {
   setting = setting (clerk_view c).origin;
@@ -23,8 +23,8 @@ clerk_sight setting c = record {
 
 module _ {K : Type 0} (gives : Sight → ℕ → Order → Result Told CounterFault → Sight → Type 0)
     (tells : K → ℕ → K → Type 0) where
-  -- a connection is answered: a stream of whatever bytes came, from a counter and a clock on to what is known of both
-  -- afterwards
+  -- a connection is answered: a stream of whatever bytes came, which leads from one state of the counter and the clock
+  -- to another
   pub record Connection (v : Sight) (k : K) (w : Sight) (l : K) : Type 0 where
     pub bytes : Option (List ℕ)
     pub rest : Option (List ℕ)
@@ -38,7 +38,7 @@ module _ {K : Type 0} (gives : Sight → ℕ → Order → Result Told CounterFa
   ConnectionsIn zero v k w l = (w ≡ v) × (l ≡ k)
   ConnectionsIn (suc n) v k w l = (u : Sight) × (m : K) × ConnectionsIn n v k u m × Connection u m w l
 
-  -- all connections that were asked for are answered, or fewer, where none could be had any more
+  -- all connections that were asked for are answered, or fewer, if no more could be accepted
   abbrev pub EndsServing : ℕ → Sight → K → ServeEnd → Sight → K → Type 0
   EndsServing count v k Done w l = ConnectionsIn count v k w l
   EndsServing count v k Io w l = (n : ℕ) × (n < count) × ConnectionsIn n v k w l

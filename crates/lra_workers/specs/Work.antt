@@ -1,4 +1,4 @@
--- What a worker does at an office.
+-- The calls of a worker at an office.
 use Rattle.std.specs.Prelude.{◌≡◌, ◌⊎◌, ℕ, zero, suc, Option, ⊤}
 use Rattle.lra_model.specs.declared.asks.AskKind.{AskKind}
 use Rattle.lra_model.specs.declared.asks.Outcome.{Outcome}
@@ -18,17 +18,17 @@ use Rattle.lra_office.specs.Orders.{IsGrown, IsNotGiven}
 use Rattle.lra_workers.specs.declared.worker.WorkerEnd.{WorkerEnd}
 use Rattle.lra_workers.specs.declared.worker.WorkerEnd.TheVariants.{Ended, Held, Refused}
 
--- where a worker stands: what its clerk has seen, and the clock
+-- the state of a worker: what its clerk has seen, and the clock
 pub record Post (O K : Type 0) : Type 0 where
   pub view : View O
   pub clock : K
 
--- a worker stands there
+-- a worker is in this state
 abbrev pub post : {O K : Type 0} → View O → K → Post O K
 post view clock = record { view = view; clock = clock }
 
--- what a worker gives that has seen a history: that limits fire, that something is asked, or that what a courier may
--- answer of an errand is recorded, where the errand is of an ask in that history
+-- the commands of a worker that has seen a history: that limits fire, that something is asked, or that a courier's
+-- possible answer to an errand is recorded, for an errand of an ask in that history
 abbrev pub IsWorkersCommand : (ℕ → AskKind → Outcome → Type 0) → History → Command → Type 0
 IsWorkersCommand gives J Tick = Unit {0}
 IsWorkersCommand gives J NextAsk = Unit {0}
@@ -40,8 +40,8 @@ pub record IsWorkersCall {O : Type 0} (gives : ℕ → AskKind → Outcome → T
   pub by : c.by ≡ v.number
   pub command : IsWorkersCommand gives v.seen c.command
 
--- what ends a worker: no ticket is left, a growth is refused, the scribe has stopped, or the journal has no room for
--- more entries
+-- what ends a worker: no ticket is left, memory is refused, the scribe has stopped, or the journal has no room for more
+-- entries
 abbrev pub EndsWorker : OfficeRefusal → Type 0
 EndsWorker office.Worn = ⊤
 EndsWorker (office.Refused Memory) = ⊤
@@ -49,8 +49,8 @@ EndsWorker (office.Refused Stopped) = ⊤
 EndsWorker (office.Refused (Full Entries)) = ⊤
 EndsWorker (office.Refused _) = ⊥
 
--- what is known beside, where a worker ends that has seen a history: its gate let no further turn be made; or it held
--- the errand of an ask in that history back; or the scribe has stopped, where the refusal says so
+-- what holds besides if a worker that has seen a history ends: its gate let no further turn be made; or the gate held
+-- the errand of an ask in that history back; or the scribe has stopped, if the refusal says so
 abbrev pub TellsWhy : Type 0 → (ℕ → Type 0) → Type 0 → History → WorkerEnd → Type 0
 TellsWhy is_shut holds has_stopped J Ended = is_shut
 TellsWhy is_shut holds has_stopped J Held = (e : Asking) × IsOfAsk J e × holds e.ask
@@ -58,14 +58,14 @@ TellsWhy is_shut holds has_stopped J (Refused r) = r ≡ office.Refused Stopped 
 
 module _ {O K : Type 0} (setting : O → Setting) (gives : ℕ → AskKind → Outcome → Type 0) (tells : K → ℕ → K → Type 0)
   where
-    -- a worker gives a call, at the moment that its clock tells, and it is refused or no ticket is left
+    -- a worker gives a call, at the moment that its clock gives, and the call is refused or no ticket is left
     pub record Fails (s : Post O K) (r : OfficeRefusal) (t : Post O K) : Type 0 where
       pub call : Call
       pub own : IsWorkersCall gives s.view call
       pub clocked : tells s.clock call.moment t.clock
       pub given : IsNotGiven (setting s.view.origin) s.view call r t.view
 
-    -- or it is done
+    -- or the call is done
     pub record Does (s t : Post O K) : Type 0 where
       pub call : Call
       pub own : IsWorkersCall gives s.view call
@@ -74,8 +74,8 @@ module _ {O K : Type 0} (setting : O → Setting) (gives : ℕ → AskKind → O
       pub errand : Option Asking
       pub given : IsGrown (setting s.view.origin) s.view call told errand t.view
 
-    -- so many calls are given, one after another: each is done, or it is to record what came of an ask that isn't
-    -- outstanding any more
+    -- so many calls are given, one after another: each is done, or records what came of an ask that isn't outstanding
+    -- any more
     unfoldable pub WorksIn : ℕ → Post O K → Post O K → Type 0
     WorksIn zero s t = s ≡ t
     WorksIn (suc n) s t = (u : Post O K) × WorksIn n s u × (Does u t ⊎ Fails u (office.Refused NotAsked) t)

@@ -1,4 +1,4 @@
-//! A worker that has many errands under way.
+//! The callback worker: it has many errands under way.
 
 ghost use Rattle.std.specs.Prelude.{◌≡◌, ◌⊎◌, false, ℕ, IfOk, IfErr, MatchResult};
 ghost use Rattle.lra_model.specs.declared.asks.Outcome.{Outcome as OutcomeValue};
@@ -22,11 +22,11 @@ use lra_office::{Clerk, OfficeOf, OfficeRefusal, Serving};
 use std::marker::PhantomData;
 use std::sync::Wait;
 
-/// Largest number of errands that are taken in one turn: between two turns the office is others'.
+/// Largest number of errands that are taken in one turn: between two turns other clerks can use the office.
 const MOST_TAKEN: u32 = 64;
 
-/// A courier that hears nothing of any errand. What it answers is known to be no more than what may come of a
-/// carriage's.
+/// Courier that carries no errand. What it answers is known to be no more than what may come of a callback pool's
+/// errands.
 struct Unheard<C>(PhantomData<C>);
 
 impl<C: Carriage> Courier for Unheard<C> {
@@ -39,15 +39,15 @@ impl<C: Carriage> Courier for Unheard<C> {
     ghost suits = { λ ask kind outcome given. C.suits ask kind outcome given };
 }
 
-/// Returns whether a carrier has ended for want of memory alone.
+/// Returns whether a callback worker has ended only because memory was refused.
 fn is_for_memory(end: WorkerEnd) -> bool
     ensures { result ≡ is_for_memory end }
 {
     end == WorkerEnd::Refused(OfficeRefusal::Refused(Refusal::Memory))
 }
 
-/// Records what came of an errand. One whose ask isn't outstanding any more is let go. Where memory is refused it is
-/// recorded after a pause, as long as the gate lets turns be made.
+/// Records what came of an errand. An errand whose ask isn't outstanding any more is discarded. If memory is refused,
+/// records it after a pause, as long as the gate lets turns be made.
 fn note<V: Serving, R: Wait, C: Carriage, G: Gate, K: Clock>(
     rt: &R,
     office: &OfficeOf<V>,
@@ -95,8 +95,9 @@ fn note<V: Serving, R: Wait, C: Carriage, G: Gate, K: Clock>(
     unreachable!()
 }
 
-/// Hands an errand over to be carried, once the journal is durable up to the clerk's position, which covers its ask.
-/// Where memory is refused it is recorded that nothing came of it, so that its member is asked again.
+/// Hands an errand over to the callback pool, with the clerk's position, which covers the errand's ask: the pool
+/// carries it once the journal is durable up to there. If memory is refused, records that nothing came of the errand,
+/// so that its member is asked again.
 fn hand_over<V: Serving, R: Wait, C: Carriage, G: Gate, K: Clock>(
     rt: &R,
     office: &OfficeOf<V>,
@@ -132,7 +133,7 @@ fn hand_over<V: Serving, R: Wait, C: Carriage, G: Gate, K: Clock>(
     }
 }
 
-/// Takes the errand of something that is due, and tells whether there was one.
+/// Takes the errand of something that is due and hands it over. Returns whether there was one.
 fn take_one<V: Serving, R: Wait, C: Carriage, G: Gate, K: Clock>(
     rt: &R,
     office: &OfficeOf<V>,
@@ -195,7 +196,7 @@ fn take_due<V: Serving, R: Wait, C: Carriage, G: Gate, K: Clock>(
     Ok(())
 }
 
-/// Records what came of one errand, and tells whether something had come of any.
+/// Records what came of one errand. Returns whether anything had come of any.
 fn record_one<V: Serving, R: Wait, C: Carriage, G: Gate, K: Clock>(
     rt: &R,
     office: &OfficeOf<V>,
@@ -224,7 +225,7 @@ fn record_one<V: Serving, R: Wait, C: Carriage, G: Gate, K: Clock>(
     }
 }
 
-/// Records what came of each errand of which something has come.
+/// Records what came of each errand that is done.
 fn record_done<V: Serving, R: Wait, C: Carriage, G: Gate, K: Clock>(
     rt: &R,
     office: &OfficeOf<V>,
@@ -254,7 +255,7 @@ fn record_done<V: Serving, R: Wait, C: Carriage, G: Gate, K: Clock>(
     unreachable!()
 }
 
-/// Lets limits fire, and takes what is due.
+/// Lets limits fire, and takes the errands of what is due.
 fn begin<V: Serving, R: Wait, C: Carriage, G: Gate, K: Clock>(
     rt: &R,
     office: &OfficeOf<V>,
@@ -280,8 +281,8 @@ fn begin<V: Serving, R: Wait, C: Carriage, G: Gate, K: Clock>(
     take_due(rt, office, clerk, carriage, gate, clock)
 }
 
-/// Begins what new work there is, where the gate lets it, and tells the first moment at which something will be due
-/// then, or is due that wasn't taken.
+/// Begins new work, if the gate lets it. Returns the first moment at which something will be due then, or is due and
+/// wasn't taken.
 fn begin_next<V: Serving, R: Wait, C: Carriage, G: Gate, K: Clock>(
     rt: &R,
     office: &OfficeOf<V>,
@@ -315,7 +316,7 @@ fn begin_next<V: Serving, R: Wait, C: Carriage, G: Gate, K: Clock>(
     }
 }
 
-/// Carries all that is under way, until that moment at most, and records what came of it.
+/// Carries all errands that are under way, until that moment at most, and records what came of them.
 fn carry_on<V: Serving, R: Wait, C: Carriage, G: Gate, K: Clock>(
     rt: &R,
     office: &OfficeOf<V>,
@@ -340,8 +341,7 @@ fn carry_on<V: Serving, R: Wait, C: Carriage, G: Gate, K: Clock>(
     record_done(rt, office, clerk, carriage, gate, clock)
 }
 
-/// Begins what new work there is, where the gate lets it, has all that is under way carried, and records what came of
-/// it.
+/// Begins new work, if the gate lets it. Then carries all errands that are under way, and records what came of them.
 fn take_turn<V: Serving, R: Wait, C: Carriage, G: Gate, K: Clock>(
     rt: &R,
     office: &OfficeOf<V>,
@@ -368,12 +368,12 @@ fn take_turn<V: Serving, R: Wait, C: Carriage, G: Gate, K: Clock>(
 }
 
 /// Works as a clerk of an office, with many errands under way: lets limits fire, takes the errands of what is due in
-/// the order in which it is, and records what comes of each when it comes, turn by turn as long as the gate lets it. An
-/// errand is taken at once: the gate isn't asked to hold it. In each turn the carriage is told when something will be
-/// due next, so that it rests no longer.
+/// the order in which it is due, and records what comes of each when it comes. It goes on turn by turn as long as the
+/// gate lets it. An errand is taken at once: the gate isn't asked to hold it. In each turn the callback pool gets the
+/// moment at which something will be due next, so that it waits no longer.
 ///
-/// Where the office is refused memory the gate pauses, and it goes on: that ends no carrier. The errands that are under
-/// way when it ends stay in the carriage.
+/// If the office is refused memory, the gate pauses, and the work goes on: that ends no callback worker. The errands
+/// that are under way when it ends stay in the callback pool.
 pub fn run_carrier<V: Serving, R: Wait, C: Carriage, G: Gate, K: Clock>(
     rt: &R,
     office: &OfficeOf<V>,
@@ -391,7 +391,7 @@ pub fn run_carrier<V: Serving, R: Wait, C: Carriage, G: Gate, K: Clock>(
     ensures why { TellsWhy (G.is_shut gate.new) (G.holds gate.new) (HasStopped V.origin V.history V.lawful V.has_stopped
         (clerk_view result.0)) (clerk_view result.0).seen result.1 }
     ensures memory { is_for_memory result.1 ≡ false }
-    // The position of each errand that is still under way covers a history in which its ask stands.
+    // The position of each errand that is still under way covers a history with its ask.
     ensures held { AreHanded V.covers (clerk_view result.0).seen (C.held carriage.new) }
 {
     let mut clerk = clerk;

@@ -16,16 +16,16 @@ use std::io::{self, Read, Write};
 use std::marker::Brand;
 use std::sync::Wait;
 
-/// Ending of a worker that answers connections.
+/// Reason why a worker that answers connections has ended.
 #[derive(Clone, Copy, Debug, PartialEq, Eq)]
 pub enum ServeEnd {
-    /// So many connections were answered as were asked for.
+    /// All connections that were asked for were answered.
     Done,
     /// A connection couldn't be accepted.
     Io,
 }
 
-/// The half of a connection that is read.
+/// Half of a connection that is read.
 #[derive(Drop)]
 struct Ear<'a, L>(&'a L);
 
@@ -35,7 +35,7 @@ impl<L: Line> Read for Ear<'_, L> {
     }
 }
 
-/// The half of a connection that is written.
+/// Half of a connection that is written.
 #[derive(Drop)]
 struct Mouth<'a, L>(&'a L);
 
@@ -71,8 +71,8 @@ fn answer<V: Serving, R: Wait, L: Line, K: Clock, Q: WhichLock>(
     window.into_clerk()
 }
 
-/// Answers so many connections as a clerk of an office, one after another, each as long as it lasts. It ends before
-/// that where no connection can be had.
+/// Answers so many connections as a clerk of an office, one after another, each as long as it lasts. Ends before that
+/// if no connection can be accepted.
 pub fn serve_connections<V: Serving, R: Wait, D: Door, K: Clock>(
     rt: &R,
     alloc: Global,

@@ -1,4 +1,4 @@
-//! Connections, and where they come in.
+//! Connections, and the acceptor that they come in by.
 
 ghost use Rattle.std.specs.Io.{ReadsAtMost, WritesAtMost};
 
@@ -6,9 +6,9 @@ use std::io::{self, Read, Write};
 use std::net::{Shutdown, TcpListener, TcpStream};
 use std::sync::{Mutex, Wait};
 
-/// One connection, which two halves read and write at once.
+/// Connection, which two halves read and write at once.
 pub trait Line {
-    /// Reads what came, as `Read::read` does.
+    /// Reads the bytes that came, as `Read::read` does.
     fn read(&self, buffer: &mut [u8]) -> io::Result<usize>
         ensures { ReadsAtMost result buffer.new };
 
@@ -17,11 +17,11 @@ pub trait Line {
         ensures { WritesAtMost result bytes.now };
 }
 
-/// Where connections come in.
+/// Acceptor of connections.
 pub trait Door {
     type Line: Line + Drop;
 
-    /// Waits for the next connection. It fails where none can be accepted.
+    /// Waits for the next connection and returns it. Fails if none can be accepted.
     fn open<R: Wait>(&self, rt: &R) -> io::Result<Self::Line>;
 }
 
@@ -37,8 +37,8 @@ impl Line for TcpStream {
     }
 }
 
-/// One thread at a time waits for a connection. What is written to one is sent at once (RFC 9293, section 3.7.4); where
-/// a socket can't be set up so, its connection is ended.
+/// Acceptor that one thread at a time waits at. What is written to a connection is sent at once (RFC 9293, section
+/// 3.7.4); if a socket can't be set up so, its connection is ended.
 impl Door for Mutex<TcpListener> {
     type Line = TcpStream;
 

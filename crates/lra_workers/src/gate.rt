@@ -16,21 +16,21 @@ pub trait Gate {
     ghost use Rattle.std.specs.Prelude.{◌≡◌, ℕ, false};
     ghost use Rattle.lra_workers.specs.declared.gate.Go.TheVariants.{NotYet};
 
-    // What is known of one that has let no further turn be made.
+    // What holds of a gate that has let no further turn be made.
     ghost is_shut: { Self → Type 0 } = { λ _. Unit {0} };
 
-    // What is known of one that has held the errand of an ask back.
+    // What holds of a gate that has held the errand of an ask back.
     ghost holds: { Self → ℕ → Type 0 } = { λ _ _. Unit {0} };
 
-    // What is known of one that lets nothing new be begun.
+    // What holds of a gate that lets no new work be begun.
     ghost is_closing: { Self → Type 0 } = { λ _. Unit {0} };
 
     /// Returns whether another turn is made. A gate of a running service pauses here.
     fn more(&mut self) -> bool
         ensures { result ≡ false → is_shut self.new };
 
-    /// Returns whether new work is begun in a turn: limits fire, and errands are taken. Else it is only recorded what
-    /// comes of those under way.
+    /// Returns whether new work is begun in a turn: limits fire, and errands are taken. Otherwise the turn only records
+    /// what comes of the errands under way.
     fn begins(&self) -> bool
         ensures { result ≡ false → is_closing self.now }
     {
@@ -41,15 +41,15 @@ pub trait Gate {
     fn hold(&mut self, ask: u64) -> Go
         ensures { result ≡ NotYet → holds self.new ask };
 
-    /// Hears that what came of an ask is recorded.
+    /// Notes that what came of an ask is recorded.
     fn answered(&mut self, ask: u64);
 
-    /// Pauses, since memory was refused: what was wanted is tried again after it. A gate of a running service sleeps
-    /// for a while that grows as long as that is all that comes.
+    /// Pauses, since memory was refused: the worker tries again after it. A gate of a running service sleeps for a
+    /// while, which grows as long as nothing but pauses follows.
     fn pause(&mut self) {}
 }
 
-/// A gate that lets each turn be made until a flag is set, and holds no errand back.
+/// Gate that lets each turn be made until a flag is set, and holds no errand back.
 #[derive(Drop)]
 pub struct OpenUntil<'a> {
     is_over: &'a AtomicBool,

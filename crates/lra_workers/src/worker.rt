@@ -20,16 +20,16 @@ use lra_model::Outcome;
 use lra_office::{Clerk, OfficeOf, OfficeRefusal, Serving};
 use std::sync::Wait;
 
-/// Number of times that a gate may say of one errand that it isn't carried yet.
+/// Number of times that a gate may answer for one errand that it isn't carried yet.
 const HOLDS: u32 = 1_000;
 
-/// Ending of a worker.
+/// Reason why a worker has ended.
 #[derive(Clone, Copy, Debug, PartialEq, Eq)]
 pub enum WorkerEnd {
     /// Its gate let it make no further turn.
     Ended,
-    /// Its gate said a thousand times of one errand that it isn't carried yet. The errand is discarded: its ask stays
-    /// outstanding until a restart.
+    /// Its gate answered a thousand times for one errand that it isn't carried yet. The errand is discarded: its ask
+    /// stays outstanding until a restart.
     Held,
     /// The office refused a command. An errand that was held then is discarded.
     Refused(OfficeRefusal),
@@ -60,7 +60,7 @@ pub(crate) fn fire<V: Serving, R: Wait, C: Courier, K: Clock>(
     unreachable!()
 }
 
-/// Returns whether a gate lets an ask's errand be carried, before it has said too often that it isn't yet.
+/// Returns whether a gate lets an ask's errand be carried, before it has answered too often that it isn't yet.
 fn is_let_go<G: Gate>(gate: &mut G, ask: u64) -> bool
     ensures { result ≡ false → G.holds gate.new ask }
 {
@@ -75,7 +75,7 @@ fn is_let_go<G: Gate>(gate: &mut G, ask: u64) -> bool
     }
 }
 
-/// Decides how a worker goes on whose record is refused: an ask that isn't outstanding any more is passed over.
+/// Decides how a worker goes on after a record that is refused: an ask that isn't outstanding any more is passed over.
 pub(crate) fn after_refusal(refusal: OfficeRefusal) -> Result<(), WorkerEnd>
     ensures { MatchResult result (λ _. refusal ≡ fault.Refused NotAsked)
         (λ end. (refusal ≢ fault.Refused NotAsked) × (end ≡ worker.Refused refusal)) }
@@ -87,7 +87,7 @@ pub(crate) fn after_refusal(refusal: OfficeRefusal) -> Result<(), WorkerEnd>
     }
 }
 
-/// The errand of something that is due, where anything is.
+/// Returns the errand of something that is due, if anything is.
 pub(crate) fn next_errand<V: Serving, R: Wait, C: Courier, K: Clock>(
     rt: &R,
     office: &OfficeOf<V>,
@@ -109,7 +109,7 @@ pub(crate) fn next_errand<V: Serving, R: Wait, C: Courier, K: Clock>(
     office.next_ask(rt, clerk, moment)
 }
 
-/// Records what came of an errand. One whose ask isn't outstanding any more is let go.
+/// Records what came of an errand. An errand whose ask isn't outstanding any more is discarded.
 fn record<V: Serving, R: Wait, C: Courier, G: Gate, K: Clock>(
     rt: &R,
     office: &OfficeOf<V>,
@@ -144,7 +144,7 @@ fn record<V: Serving, R: Wait, C: Courier, G: Gate, K: Clock>(
     }
 }
 
-/// Carries an errand and records what came of it, where the gate lets it.
+/// Carries an errand and records what came of it, if the gate lets it.
 fn carry<V: Serving, R: Wait, C: Courier, G: Gate, K: Clock>(
     rt: &R,
     office: &OfficeOf<V>,
@@ -172,7 +172,7 @@ fn carry<V: Serving, R: Wait, C: Courier, G: Gate, K: Clock>(
     record::<V, R, C, G, K>(rt, office, clerk, gate, clock, errand, outcome)
 }
 
-/// Lets limits fire, and carries one errand, where one is due.
+/// Lets limits fire, and carries one errand, if one is due.
 fn take_turn<V: Serving, R: Wait, C: Courier, G: Gate, K: Clock>(
     rt: &R,
     office: &OfficeOf<V>,

@@ -6,7 +6,7 @@ use Rattle.lra_admission.specs.declared.fault.KeysFault.TheVariants as fault
 use Rattle.lra_admission.specs.Keys.{digests_of}
 use Rattle.lra_admission.specs.Lines.{digests_in}
 
--- how many bytes of a file are read at most (this project's choice)
+-- the largest number of bytes that are read of a file (this project's choice)
 abbrev pub longest : ℕ
 longest = 65536
 

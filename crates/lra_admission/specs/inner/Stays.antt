@@ -1,4 +1,4 @@
--- The responder keeps what its URIs begin with, whatever is let in.
+-- The filter keeps what the handler's URIs begin with, whatever is let in.
 use Rattle.std.specs.Prelude.{◌≡◌, ℕ, List, Option, Some, None, MatchOption}
 use Rattle.std.proofs.Common.{ap}
 use Rattle.lra_wire.specs.Request.{Request}

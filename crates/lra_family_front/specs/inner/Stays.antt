@@ -1,4 +1,4 @@
--- What one visit does, and that it leaves what a session was made with as it was.
+-- What one visit does. It doesn't change what a session was made with.
 use Rattle.std.specs.Prelude.{◌≡◌, ℕ, Bool, List, Option, Some, None, IfSome, IsSomeAnd, IsTrue, Result, Ok, Err}
 use Rattle.std.proofs.Common.{ap, refl}
 use Rattle.lra_wire.specs.Request.{Request}
@@ -32,12 +32,12 @@ module _ {C : Type 0} (sight : C → Sight) (covers : C → ℕ → Bool) (gives
       DoesOrdered sight covers gives before (record { request = request; moment = moment; answered = answered }) after
       × HasIdentifiers answered.answer
 
-  -- the session of an instance answers and every other stays, or there is none
+  -- the session of an instance answers and every other stays as it was, or there is no such session
   abbrev pub Visits : ℕ → ℕ → Request → Option Answered → List Sight → List Sight → Type 0
   Visits i moment request r before after = MovesAt name i before (λ s t. IsSomeAnd r (λ a. Answers s moment request a
       t)) (r ≡ None) after
 
-  -- what a session covers is covered at what is known of it
+  -- a session covers a position by what is known of it
   pub covered_at : (session : C) (position : Option ℕ) → IfSome position (λ n. IsTrue (covers session n)) → IfSome
       position (IsCoveredAt sight covers gives (sight session))
   covered_at session None h = tt

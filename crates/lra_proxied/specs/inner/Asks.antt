@@ -1,4 +1,4 @@
--- What is asked of who answers.
+-- Call of a handler.
 use Rattle.std.specs.Prelude.{ℕ, Option, Result, Ok, Err, ⊤}
 use Rattle.lra_wire.specs.declared.request.RequestRead.{RequestRead}
 use Rattle.lra_wire.specs.Request.{Request}
@@ -7,7 +7,8 @@ use Rattle.lra_proxied.specs.Asked.{LacksSome}
 use Rattle.lra_proxied.specs.inner.Made.{meant_by}
 
 module _ {S : Type 0} {E : Type 0} (responds : S → ℕ → Request → Answered → S → Type 0) where
-  -- one who answers is asked the request that was made of another; where none could be made, nobody is asked
+  -- a handler is called with the request that was made of another; if memory was refused in making it, the handler
+  -- isn't called
   abbrev pub Asks : S → ℕ → RequestRead → Result (Option RequestRead) E → Answered → S → Type 0
   Asks before moment own (Ok other) answered after = responds before moment (meant_by own other) answered after
   Asks before moment own (Err e) answered after = LacksSome ⊤ before answered after

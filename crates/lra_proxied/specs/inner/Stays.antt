@@ -1,4 +1,4 @@
--- Whoever answers keeps what the URIs begin with, whatever requests mean.
+-- The filters keep what the handler's URIs begin with, whatever requests mean.
 use Rattle.std.specs.Prelude.{◌≡◌, ◌⊎◌, ℕ, List, IsTrue, IsFalse}
 use Rattle.std.proofs.Common.{inl, inr, ap}
 use Rattle.lra_wire.specs.Request.{Request}

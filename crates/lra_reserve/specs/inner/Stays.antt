@@ -1,4 +1,4 @@
--- What a request that is let through or turned away leaves as it was.
+-- A request keeps what the URIs begin with, whether it is let through or turned away.
 use Rattle.std.specs.Prelude.{◌≡◌, ℕ, List, Option}
 use Rattle.std.proofs.Common.{ap, inl, inr}
 use Rattle.lra_wire.specs.Request.{Request}

@@ -1,11 +1,11 @@
--- When callback workers are woken.
+-- Answers after which a callback worker is woken.
 use Rattle.std.specs.Prelude.{Bool, true, false}
 use Rattle.lra_front.specs.declared.answer.Answer.{Answer}
 use Rattle.lra_front.specs.declared.answer.Answer.TheVariants as answer
 
--- After an answer something may be due at once, an ask or a limit of time: an action ends, a member tells how it ended,
+-- After an answer something may be due at once, an ask or a time limit: an action ends, a member reports how it ended,
 -- a limit was renewed, or an action was begun by a body, which may have a limit (this project's choice: a worker that
--- isn't woken looks within a second).
+-- isn't woken polls within a second).
 abbrev pub may_be_due : Answer → Bool → Bool
 may_be_due (answer.Started action) has_body = has_body
 may_be_due (answer.Turned status) has_body = true

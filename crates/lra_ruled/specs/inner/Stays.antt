@@ -1,4 +1,4 @@
--- The responder keeps what its URIs begin with, whatever the rules are.
+-- The filter keeps what the handler's URIs begin with, whatever the rules are.
 use Rattle.std.specs.Prelude.{◌≡◌, ◌⊎◌, ℕ, List}
 use Rattle.std.proofs.Common.{inl, inr, ap}
 use Rattle.lra_wire.specs.Request.{Request}

@@ -2,6 +2,6 @@ use Rattle.std.proofs.Common.{◌≡◌, drop}
 use Rattle.std.specs.Prelude.{◌&&◌, bytes_eq}
 use Rattle.lra_proxied.proofs.paths.is_same.Given as goal
 
--- with what is left to compare it comes to the same
+-- the comparison so far, with that of the bytes left, comes to the same
 abbrev pub invariant-loop-place : goal.invariant-loop-place
 invariant-loop-place l = (l.same && bytes_eq (drop l.place l.one) (drop l.place l.other)) ≡ bytes_eq l.one l.other
