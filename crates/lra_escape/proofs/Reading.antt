@@ -1,11 +1,11 @@
--- What is spelled reads back.
+-- An escaped text reads back.
 use Rattle.std.proofs.Common.{◌≡◌, ℕ, ◌==◌, false, List, [], ◌∷◌, ◌++◌, None, inl, inr, refl, sym, ap, ◌∙◌, subst}
 use Rattle.std.proofs.Common.{arith}
 use Rattle.std.specs.Prelude.{option_map}
 use Rattle.std.proofs.lemmas.Bool.Decides.{eqb_tells}
 use Rattle.lra_escape.specs.Escapes.{spelled, escaped, unescaped_in, ReadsBack}
 
--- what follows a spelled byte is read on, and the byte comes before it
+-- the escape of a byte, before a rest, reads as the byte and then what the rest reads as
 abbrev Reads : List ℕ → ℕ → Type 0
 Reads rest b = unescaped_in None (spelled b ++ rest) ≡ option_map (λ text. b ∷ text) (unescaped_in None rest)
 

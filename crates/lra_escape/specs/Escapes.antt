@@ -1,11 +1,11 @@
--- How a text is spelled in HTML, and how that is read.
+-- The escapes of a text in HTML, and how they are read.
 use Rattle.std.specs.Prelude.{◌≡◌, ℕ, ◌==◌, Bool, ◌||◌, if◌then◌else◌, List, [], ◌∷◌, ◌++◌, codes, bytes_eq, Option}
 use Rattle.std.specs.Prelude.{Some, None, option_map}
 use Rattle.std.specs.List.{flat_map}
 use Rattle.std.specs.Option.{option_map_or}
 
--- a byte: a reference for each of the five that markup and quoted values are told by (HTML, section 13.1.4), and itself
--- for any other
+-- the escape of a byte: a reference for each of the five that delimit markup and quoted values (HTML, section 13.1.4),
+-- and itself for any other
 abbrev pub spelled : ℕ → List ℕ
 spelled b =
     if b == 60 then codes "&lt;"
@@ -15,11 +15,11 @@ spelled b =
     else if b == 39 then codes "&#39;"
     else b ∷ []
 
--- a text, byte by byte
+-- an escaped text: the escapes of its bytes, one after another
 abbrev pub escaped : List ℕ → List ℕ
 escaped text = flat_map spelled text
 
--- the byte that a reference stands for, by what it has between `&` and `;`
+-- the byte that a reference stands for, by its name between `&` and `;`
 abbrev pub named : List ℕ → Option ℕ
 named name =
     if bytes_eq name (codes "lt") then Some 60
@@ -29,12 +29,12 @@ named name =
     else if bytes_eq name (codes "#39") then Some 39
     else None
 
--- whether a byte may not stand bare, beside `&`, which begins a reference
+-- whether a byte is a mark that may not stand bare; `&`, which begins a reference, isn't one of these
 abbrev pub is_bare : ℕ → Bool
 is_bare b = (b == 60) || (b == 62) || (b == 34) || (b == 39)
 
--- what bytes spell, in a reference of which so much came, or in none: nothing where a mark stands bare, or a reference
--- isn't one of the five, or isn't ended
+-- the text that bytes read as, after so much of a reference's name, or outside a reference: nothing if a mark stands
+-- bare, or a reference isn't one of the five or isn't ended
 abbrev pub unescaped_in : Option (List ℕ) → List ℕ → Option (List ℕ)
 unescaped_in None [] = Some []
 unescaped_in (Some name) [] = None
@@ -46,10 +46,10 @@ unescaped_in (Some name) (b ∷ rest) =
     if b == 59 then option_map_or (λ c. option_map (λ text. c ∷ text) (unescaped_in None rest)) (named name) None
     else unescaped_in (Some (name ++ b ∷ [])) rest
 
--- what bytes spell
+-- the text that bytes read as, or nothing
 abbrev pub unescaped : List ℕ → Option (List ℕ)
 unescaped bytes = unescaped_in None bytes
 
--- what is spelled reads back as the text
+-- an escaped text reads back as the text
 abbrev pub ReadsBack : Type 0
 ReadsBack = (text : List ℕ) → unescaped (escaped text) ≡ Some text

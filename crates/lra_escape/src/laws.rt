@@ -2,8 +2,8 @@
 
 ghost use Rattle.lra_escape.specs.Escapes.{ReadsBack};
 
-/// States that what is added for a text reads back as that text, whatever bytes it has. So none of the five marks
-/// stands bare in it: the reading would refuse it.
+/// States that an escaped text reads back as the text, whatever bytes it has. So none of the five marks stands bare in
+/// it, as the reading would refuse it.
 pub fn escapes_read_back()
     ensures { ReadsBack }
 {}

@@ -1,4 +1,4 @@
-//! Text in HTML, of which nothing is read as markup.
+//! Escapes for text in HTML, so that none of it is read as markup.
 #![tactic(auto)]
 
 mod laws;

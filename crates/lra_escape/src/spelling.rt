@@ -1,11 +1,11 @@
-//! Adds text to HTML.
+//! Writers that add text to HTML.
 
 ghost use Rattle.std.specs.Prelude.{◌≡◌, ◌++◌, OnOk};
 ghost use Rattle.lra_escape.specs.Escapes.{spelled, escaped};
 
 use std::alloc::AllocError;
 
-/// Adds a byte, as HTML spells it.
+/// Adds a byte to a page, escaped for HTML.
 fn push_spelled(page: &mut Vec<u8>, byte: u8) -> Result<(), AllocError>
     ensures { OnOk result (page.new.items ≡ page.old.items ++ spelled byte) }
 {
@@ -19,8 +19,8 @@ fn push_spelled(page: &mut Vec<u8>, byte: u8) -> Result<(), AllocError>
     }
 }
 
-/// Adds a text to a page of HTML, in an element or between the quotes of an attribute. Where memory is refused a front
-/// of it may have been added.
+/// Adds a text to a page of HTML, escaped for an element or a quoted value of an attribute. If memory fails, the first
+/// bytes of it may have been added.
 pub fn escape(page: &mut Vec<u8>, text: &str) -> Result<(), AllocError>
     ensures { OnOk result (page.new.items ≡ page.old.items ++ escaped text.now) }
 {

@@ -1,4 +1,4 @@
--- Texts that are compared byte by byte, all to the end.
+-- The comparison of texts byte by byte, all to the end.
 use Rattle.std.proofs.Common.{◌≡◌, ℕ, ◌+◌, ◌<◌, ◌≤◌, ◌==◌, Bool, true, false, List, length, drop, get_or, inl, inr}
 use Rattle.std.proofs.Common.{refl, sym, ap, eqb-true, ◌∙◌, subst, arith, add-one, drop-cons}
 use Rattle.std.specs.Prelude.{◌&&◌, bytes_eq}
@@ -10,7 +10,7 @@ is_false : (b : Bool) → (b ≡ true → ⊥) → false ≡ b
 is_false true h = absurd (h refl)
 is_false false h = refl
 
--- before the first byte
+-- before the first byte, the result with all bytes left is whether the texts are equal
 pub begun : (g w : List ℕ) → ((length g == length w) && bytes_eq g w) ≡ bytes_eq g w
 begun g w = elim (eqb_tells (length g) (length w)) [
   | inl h ↦ rw h.0 refl
@@ -20,7 +20,7 @@ begun g w = elim (eqb_tells (length g) (length w)) [
 pub begun_long : (g w : List ℕ) → (length g == length w) ≡ true → length g ≡ length w
 begun_long g w h = eqb-true (length g) (length w) h
 
--- one byte more
+-- one more byte doesn't change the result with the bytes that are left
 pub compared : (g w : List ℕ) (i : ℕ) (same : Bool) → i < length g → (same ≡ true → length g ≡ length w)
     → ((same && (get_or g i 0 == get_or w i 0)) && bytes_eq (drop (i + 1) g) (drop (i + 1) w))
     ≡ (same && bytes_eq (drop i g) (drop i w))
@@ -34,7 +34,7 @@ pub compared_long : (g w : List ℕ) (same b : Bool) → (same ≡ true → leng
 compared_long g w true b e h = e refl
 compared_long g w false b e h = e h
 
--- after the last one
+-- after the last byte, the result alone is whether the texts are equal
 whole : (g w : List ℕ) (same : Bool) → (same ≡ true → length g ≡ length w)
     → (same && bytes_eq (drop (length g) g) (drop (length g) w)) ≡ same
 whole g w false e = refl

@@ -18,12 +18,12 @@ use Rattle.lra_operators.specs.declared.operation.Operation.TheVariants as opera
 use Rattle.lra_operators.specs.Operations.{is_order}
 use Rattle.lra_operators.specs.Forms.{form_value}
 
--- whether a text that was given, if one was, is the one that is wanted, if one is
+-- whether there is a given text and a wanted one, and they are the same
 abbrev pub gives : Option (List ℕ) → Option (List ℕ) → Bool
 gives (Some given) (Some wanted) = bytes_eq given wanted
 gives _ _ = false
 
--- whether a text that was given, if one was, is another than the one that is wanted, if one is: an empty one isn't
+-- whether there is a given text that isn't empty and a wanted one, and they differ
 abbrev pub mistakes : Option (List ℕ) → Option (List ℕ) → Bool
 mistakes (Some given) (Some wanted) = not (length given == 0) && not (bytes_eq given wanted)
 mistakes _ _ = false
@@ -42,13 +42,13 @@ is_space b = b == 32
 abbrev pub is_colon : ℕ → Bool
 is_colon b = b == 58
 
--- the key that a value of Authorization gives as Bearer: what follows that word and a space, or nothing (RFC 6750,
+-- the key that a value of Authorization gives as Bearer: what follows the word and a space, or nothing (RFC 6750,
 -- section 2.1)
 abbrev pub bearer_in : List ℕ → List ℕ
 bearer_in value = if str_eq_ignore_ascii_case (before_first is_space value) (codes "bearer") then after_first is_space
     value else []
 
--- what a value of Authorization has as Basic: what follows that word and a space, or nothing (RFC 7617, section 2)
+-- what a value of Authorization has as Basic: what follows the word and a space, or nothing (RFC 7617, section 2)
 abbrev pub basic_in : List ℕ → List ℕ
 basic_in value = if str_eq_ignore_ascii_case (before_first is_space value) (codes "basic") then after_first is_space
     value else []
@@ -58,11 +58,11 @@ abbrev pub decoded_or_none : Result (List ℕ) DecodeError → List ℕ
 decoded_or_none (Ok bytes) = bytes
 decoded_or_none (Err error) = []
 
--- what is spelled in base64 (RFC 4648, section 4), or nothing where it isn't
+-- the bytes that base64 encodes (RFC 4648, section 4), or nothing if a text isn't base64
 abbrev pub decoded : List ℕ → List ℕ
 decoded spelled = decoded_or_none (decode_of standard spelled)
 
--- bytes that are a text, or nothing
+-- the text that bytes are, or nothing if they aren't UTF-8
 abbrev pub text_of : List ℕ → List ℕ
 text_of bytes = if is_utf8 bytes then bytes else []
 
@@ -74,50 +74,51 @@ password_in value = after_first is_colon (text_of (decoded (basic_in value)))
 abbrev pub is_numeric : ℕ → Bool
 is_numeric b = is_ascii_digit b || b == 46
 
--- an address of the machine's own in numbers: it begins as all those do, and no other name has digits and points alone
--- (RFC 1122, section 3.2.1.3)
+-- an address of the machine's own: it begins with 127., and no other name has only digits and points (RFC 1122, section
+-- 3.2.1.3)
 abbrev pub is_loopback : List ℕ → Bool
 is_loopback name = begins (codes "127.") name && list_all is_numeric name
 
--- a name of the machine's own without its port (this project's choice)
+-- a host name of the machine's own, without its port (this project's choice)
 abbrev pub is_own_host : List ℕ → Bool
 is_own_host name = bytes_eq name (codes "localhost") || is_loopback name
 
--- a host that is the machine's own, as those name it who are on it: such a name with any port, or the address of
--- version 6
+-- a host that is the machine's own, as clients on it name it: such a name with any port, or the address ::1 of IPv6
+-- with or without one
 abbrev pub is_own_name : List ℕ → Bool
 is_own_name host = is_own_host (before_first is_colon host) || bytes_eq host (codes "[::1]")
     || begins (codes "[::1]:") host
 
--- whether a request came by one of these: one with no Host, or with one that is no text, didn't
+-- whether a request came by a name of the machine's own: one with no Host, or with a Host that is no UTF-8, didn't
 abbrev pub is_own : Option (List ℕ) → Bool
 is_own host = option_map_or (λ value. is_own_name (text_of value)) host false
 
--- the keys that the head of a request gives, if it has an Authorization: one that is no text gives an empty one
+-- the key that the head of a request gives as Bearer, if it has an Authorization: one that is no UTF-8 gives an empty
+-- key
 abbrev pub bearer_of : Fields → Option (List ℕ)
 bearer_of fields = option_map (λ value. bearer_in (text_of value)) fields.authorization
 
--- the password that a request gives, by the Basic scheme (RFC 7617)
+-- the password that the head of a request gives as Basic (RFC 7617), if it has an Authorization
 abbrev pub password_of : Fields → Option (List ℕ)
 password_of fields = option_map (λ value. password_in (text_of value)) fields.authorization
 
--- whether a body is said to be JSON, which no form of another place can say (Fetch Standard, safelisted values of
--- Content-Type)
+-- whether a request says that its body is JSON, which no form of another site can say (Fetch Standard, safelisted
+-- values of Content-Type)
 abbrev pub is_json : Option (List ℕ) → Bool
 is_json kind = option_map_or (λ value. begins (codes "application/json") value) kind false
 
--- ---- what is seen of a request, and what it comes to
+-- ---- the facts of a request, and its admission
 
 -- the operation that gives a member up
 abbrev pub is_give_up : Operation → Bool
 is_give_up operation.GiveUp = true
 is_give_up _ = false
 
--- the key that each has to give, if there is one
+-- the key that each request has to give, if there is one
 abbrev pub key_of : Access → Option (List ℕ)
 key_of access = option_map (λ key. key.now) access.key
 
--- what of a request for an operation says whether it may be made
+-- the facts of a request for an operation that decide whether it may be made
 abbrev pub seen : Access → Request → Operation → Seen
 seen access request p = record {
   wants_key = is_some access.key;
@@ -132,9 +133,10 @@ seen access request p = record {
   is_json = is_json request.fields.content_type;
 }
 
--- of an order: with the key as Bearer it may be given; else no other key is typed into its form, and it has the key,
--- where one is wanted, in its head or in its form, and it is a form with the token, or says that it is no form. A
--- browser sends the password of Basic with the form of any other place too, so that it alone doesn't do
+-- whether an order may be given (this project's choice). With the key as Bearer it may. Otherwise its form must have no
+-- other key; if a key is wanted, its head or its form has to give it; and the order has to be a form with the token, or
+-- say that it is JSON. A browser sends the password of Basic with the form of any other site too, so that the password
+-- alone isn't enough
 abbrev pub order_admission : Seen → Admission
 order_admission s =
     if s.is_give_up && not s.wants_key then admission.NeedsKey
@@ -144,8 +146,8 @@ order_admission s =
     else if s.form_has_token || s.is_json then admission.Admitted
     else admission.Forged
 
--- of any request: where no key is wanted it has to come by a name of the machine's own; and where one is, what tells
--- has it in its head
+-- whether a request may be made (this project's choice). If no key is wanted, it has to come by a name of the machine's
+-- own. If a key is wanted, a request that gives no order has to give it in its head
 abbrev pub admission_of : Seen → Admission
 admission_of s =
     if not s.wants_key && not s.is_own then admission.WrongHost

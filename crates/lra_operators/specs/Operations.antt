@@ -24,7 +24,7 @@ path operation.GiveUp = codes "/members/{id}/give-up"
 path operation.Home = codes "/"
 path operation.Tree = codes "/page/actions/{id}"
 
--- an operation's method, the one that its path takes
+-- an operation's method: the only one that its path accepts
 abbrev pub method : Operation → List ℕ
 method operation.Health = codes "GET"
 method operation.Live = codes "GET"
@@ -46,7 +46,7 @@ is_order operation.Cancel = true
 is_order operation.GiveUp = true
 is_order _ = false
 
--- an operation, in a sentence
+-- a sentence that says what an operation does
 abbrev pub summary : Operation → List ℕ
 summary operation.Health =
     codes "Returns whether it takes requests and keeps what it answers, by MicroProfile Health 4.0"
@@ -63,8 +63,8 @@ summary operation.GiveUp =
 summary operation.Home = codes "Shows counts, and what hasn't ended or has a status"
 summary operation.Tree = codes "Shows an action"
 
--- the codes of an operation's replies where it is done: of health 503 too, where it is down, and of an order 303, where
--- a form gave it
+-- the status codes of an operation's replies when it is done: for health also 503, if the service is down; for an order
+-- also 303, if a form gave it
 abbrev pub success : Operation → List ℕ
 success operation.Health = 200 ∷ 503 ∷ []
 success operation.Live = 200 ∷ 503 ∷ []

@@ -1,4 +1,4 @@
--- Which order a request gives.
+-- The order that a request gives.
 use Rattle.std.specs.Prelude.{◌≡◌, ◌⊎◌, ℕ, List, [], ◌∷◌, ◌++◌, Ok}
 use Rattle.lra_model.specs.declared.status.Ending.TheVariants as ending
 use Rattle.lra_ids.specs.Identifiers.{id_text, IsSpelling}
@@ -12,8 +12,8 @@ use Rattle.lra_operators.specs.declared.operation.Operation.TheVariants as opera
 use Rattle.lra_operators.specs.Routes.{path_in, id_in, operation_of}
 use Rattle.lra_operators.specs.Access.{seen, admission_of}
 
--- the order of an operation for a number: a close or a cancel of an action, or that a member failed, as it would tell
--- itself; others give none
+-- the order of an operation for a number: a close or a cancel of an action, or the report that a member failed, as it
+-- would report itself; other operations give none
 abbrev pub IsOrderAt : Operation → ℕ → Order → Type 0
 IsOrderAt operation.Close n o = o ≡ order.Close n
 IsOrderAt operation.Cancel n o = o ≡ order.Cancel n
@@ -21,7 +21,7 @@ IsOrderAt operation.GiveUp n o = (o ≡ order.Report n ending.FailedToComplete)
     ⊎ (o ≡ order.Report n ending.FailedToCompensate)
 IsOrderAt _ n o = ⊥
 
--- the order that a target asks for of an operation, of a journal whose identifier its path has
+-- an order that a target asks for by an operation: its path has an identifier of the order's journal and number
 pub record IsAsked (target : List ℕ) (p : Operation) (i : ℕ) (o : Order) : Type 0 where
   pub number : ℕ
   pub names : IsSpelling (id_text i) (id_in (path_in target)) number
@@ -40,7 +40,7 @@ abbrev pub Answers : Access → Request → List (ℕ × Order) → List (ℕ ×
 Answers access request before after = (after ≡ before) ⊎ ((i : ℕ) × (o : Order) × GivesOrder access request i o
     × (after ≡ before ++ (i, o) ∷ []))
 
--- what bytes do to them: nothing, or what the request does that they begin with
+-- what bytes do to the orders that were given: nothing, or what the request does that they begin with
 abbrev pub AnswersBytes : Access → List ℕ → List (ℕ × Order) → List (ℕ × Order) → Type 0
 AnswersBytes access bytes before after = (after ≡ before) ⊎ ((request : Request) × (rest : List ℕ)
     × IsRequest bytes request rest × Answers access request before after)

@@ -1,4 +1,4 @@
--- What the path and the method of a request ask for.
+-- The operations that the path and the method of a request ask for.
 use Rattle.std.specs.Prelude.{ℕ, List, ◌==◌, Bool, if◌then◌else◌, bytes_eq, Option, Result, Ok, Err}
 use Rattle.std.specs.List.{before_first, after_first}
 use Rattle.std.specs.Option.{option_map_or}
@@ -26,17 +26,17 @@ path_in target = before_first is_mark target
 unfoldable pub id_in : List ℕ → List ℕ
 id_in path = before_first is_slash (after_first is_slash (after_first is_slash path))
 
--- the operation of which a target has the path, as `matchit` finds it, whatever its query
+-- the operation whose path a target has, as `matchit` finds it, whatever the target's query
 unfoldable pub operation_at : List ℕ → Option Operation
 operation_at target = served_at path operations (path_in target)
 
 -- ---- methods
 
--- what a method asks for at the path of an operation, if it is taken there; methods are told apart by their case (RFC
--- 9110, section 9.1)
+-- what a method asks for at the path of an operation, if the path accepts it; methods are case-sensitive (RFC 9110,
+-- section 9.1)
 abbrev pub asked_at : List ℕ → Operation → Result Operation Unserved
 asked_at m o = if bytes_eq m (method o) then Ok o else Err (BadMethod o)
 
--- what a request asks for: the path first, then the method
+-- what a request asks for: its path decides first, then its method
 abbrev pub operation_of : List ℕ → List ℕ → Result Operation Unserved
 operation_of m target = option_map_or (asked_at m) (operation_at target) (Err NoSuchPath)

@@ -17,9 +17,9 @@ use std::alloc::Global;
 /// Secrets that a request has to give to be admitted.
 #[derive(Clone, Copy)]
 pub struct Access<'a> {
-    /// The key that each has to give, if there is one.
+    /// Key that each request has to give, if there is one.
     pub key: Option<&'a str>,
-    /// The word that the forms of the pages have, and that nobody else knows.
+    /// Token that the forms of the pages carry, and that nobody else knows.
     pub token: &'a str,
 }
 
@@ -29,11 +29,11 @@ pub enum Admission {
     Admitted,
     /// No key was given, or another.
     WrongKey,
-    /// It came by a name of the host that isn't the machine's own, as a page of another place would have it.
+    /// The request came by a host name that isn't the machine's own, as a page of another site would send it.
     WrongHost,
-    /// An order that may come from a page of another place.
+    /// The request is an order that may come from a page of another site.
     Forged,
-    /// An order that needs a key, where there is none.
+    /// The request is an order that needs a key, and there is none.
     NeedsKey,
     /// Another key was typed into the form.
     MistypedKey,
@@ -42,22 +42,23 @@ pub enum Admission {
 /// Facts of a request that decide whether it may be made.
 #[derive(Clone, Copy)]
 pub struct Seen {
-    /// Each request has to give a key.
+    /// Flag, set if each request has to give a key.
     pub wants_key: bool,
-    /// It came by a name of the machine's own.
+    /// Flag, set if the request came by a name of the machine's own.
     pub is_own: bool,
-    /// It asks for an order, and for the one that gives a member up.
+    /// Flags, set if the request asks for an order, and if that order gives a member up.
     pub is_order: bool,
     pub is_give_up: bool,
-    /// The secrets that it gives: the key in its head, in any way or in the one that no browser takes by itself, or in
-    /// the form that its body is, and the token in that form.
+    /// Flags for the secrets that the request gives: the key in its head, as `Bearer` or as the password of `Basic`;
+    /// the key as `Bearer`, which no browser sends by itself; the key in the form that its body is; and the token in
+    /// that form.
     pub head_has_key: bool,
     pub bearer_has_key: bool,
     pub form_has_key: bool,
     pub form_has_token: bool,
-    /// Its form has another key, which isn't empty.
+    /// Flag, set if the form has another key, which isn't empty.
     pub form_mistakes_key: bool,
-    /// It says that its body is JSON.
+    /// Flag, set if the request says that its body is JSON.
     pub is_json: bool,
 }
 
@@ -65,7 +66,7 @@ impl Seen {
     ghost use Rattle.std.specs.Prelude.{◌≡◌};
     ghost use Rattle.lra_operators.specs.Access.{order_admission, admission_of};
 
-    /// Decides whether an order may be given.
+    /// Returns whether an order may be given, or else why not.
     fn order_admission(self) -> Admission
         ensures { result ≡ order_admission self }
     {
@@ -87,7 +88,7 @@ impl Seen {
         Admission::Forged
     }
 
-    /// Decides whether the request may be made.
+    /// Returns whether the request may be made, or else why not.
     pub fn admission(self) -> Admission
         ensures { result ≡ admission_of self }
     {
@@ -104,7 +105,7 @@ impl Seen {
     }
 }
 
-/// Returns whether two texts are the same, in a time that depends on how long the given one is alone.
+/// Returns whether two texts are the same, in a time that depends only on the length of the given one.
 fn is_same(given: &[u8], wanted: &[u8]) -> bool
     ensures { result ≡ bytes_eq given.now wanted.now }
 {
@@ -116,7 +117,7 @@ fn is_same(given: &[u8], wanted: &[u8]) -> bool
     same
 }
 
-/// The key that a value of `Authorization` gives as `Bearer`.
+/// Returns the key that a value of `Authorization` gives as `Bearer`, or nothing.
 fn bearer_in(authorization: &str) -> &str
     ensures { result.now ≡ spec.bearer_in authorization.now }
 {
@@ -127,7 +128,7 @@ fn bearer_in(authorization: &str) -> &str
     }
 }
 
-/// Returns what a value of `Authorization` has as `Basic`: a name, a colon and a password, spelled in base64.
+/// Returns what a value of `Authorization` has as `Basic`, or nothing: a name, a colon and a password, in base64.
 fn basic_in(authorization: &str) -> &str
     ensures { result.now ≡ spec.basic_in authorization.now }
 {
@@ -138,7 +139,7 @@ fn basic_in(authorization: &str) -> &str
     }
 }
 
-/// Returns the bytes that are spelled in base64, or none where they are no base64.
+/// Decodes base64. Returns no bytes if the text isn't base64.
 fn decoded(alloc: Global, spelled: &str) -> Result<Vec<u8>, Memory>
     ensures { IfOk result (λ bytes. bytes.items ≡ spec.decoded spelled.now) }
 {
@@ -149,7 +150,7 @@ fn decoded(alloc: Global, spelled: &str) -> Result<Vec<u8>, Memory>
     }
 }
 
-/// The text of bytes, or none where they are no text.
+/// Returns the text that bytes are, or an empty one if they aren't UTF-8.
 fn text_of(bytes: &[u8]) -> &str
     ensures { result.now ≡ spec.text_of bytes.now }
 {
@@ -199,7 +200,7 @@ fn after_colon(text: &str) -> &str
     }
 }
 
-/// Returns whether a name has digits and points alone.
+/// Returns whether a name has only digits and points.
 fn is_numeric(name: &[u8]) -> bool
     ensures { result ≡ list_all spec.is_numeric name.now }
 {
@@ -207,21 +208,21 @@ fn is_numeric(name: &[u8]) -> bool
         .all(|byte| byte.is_ascii_digit() || *byte == b'.')
 }
 
-/// Returns whether a name is an address of the machine's own in numbers.
+/// Returns whether a name is an address of the machine's own: one of `127.0.0.0/8`.
 fn is_loopback(name: &[u8]) -> bool
     ensures { result ≡ spec.is_loopback name.now }
 {
     name.starts_with(b"127.") && is_numeric(name)
 }
 
-/// Returns whether a name without its port is the machine's own.
+/// Returns whether a host name without its port is the machine's own.
 fn is_own_host(name: &[u8]) -> bool
     ensures { result ≡ spec.is_own_host name.now }
 {
     name == b"localhost".as_slice() || is_loopback(name)
 }
 
-/// Returns whether a host is the machine's own, as it is named on the machine itself.
+/// Returns whether a host is the machine's own, as clients on the machine itself name it.
 fn is_own_name(host: &str) -> bool
     ensures { result ≡ spec.is_own_name host.now }
 {
@@ -268,7 +269,7 @@ fn is_wanted(given: &str, wanted: Option<&str>) -> bool
     }
 }
 
-/// Returns whether a text is another than the one that is wanted, if one is. An empty one isn't.
+/// Returns whether a text differs from the one that is wanted, if one is. An empty text doesn't count.
 fn is_mistaken(given: &str, wanted: Option<&str>) -> bool
     ensures { result ≡ spec.mistakes (Some given.now) (option_map (λ text. text.now) wanted.entry) }
 {
@@ -278,7 +279,7 @@ fn is_mistaken(given: &str, wanted: Option<&str>) -> bool
     }
 }
 
-/// Returns whether the head of a request gives the key as `Bearer`, where there is one.
+/// Returns whether the head of a request gives the key as `Bearer`, if there is a key.
 fn bearer_gives(fields: &RequestFields, key: Option<&str>) -> bool
     ensures { result ≡ spec.gives (spec.bearer_of (what_fields fields.now)) (option_map (λ text. text.now) key.entry) }
 {
@@ -288,7 +289,7 @@ fn bearer_gives(fields: &RequestFields, key: Option<&str>) -> bool
     }
 }
 
-/// Returns whether a value of `Authorization` gives the key as the password of `Basic`, where there is one.
+/// Returns whether a value of `Authorization` gives the key as the password of `Basic`, if there is a key.
 fn is_password(alloc: Global, authorization: &str, key: Option<&str>) -> Result<bool, Memory>
     ensures { IfOk result (λ b. b ≡ spec.gives (Some (spec.password_in authorization.now))
         (option_map (λ text. text.now) key.entry)) }
@@ -298,7 +299,7 @@ fn is_password(alloc: Global, authorization: &str, key: Option<&str>) -> Result<
     Ok(is_wanted(password, key))
 }
 
-/// Returns whether the head of a request gives the key as the password of `Basic`, where there is one.
+/// Returns whether the head of a request gives the key as the password of `Basic`, if there is a key.
 fn basic_gives(alloc: Global, fields: &RequestFields, key: Option<&str>) -> Result<bool, Memory>
     ensures { IfOk result (λ b. b ≡ spec.gives (spec.password_of (what_fields fields.now))
         (option_map (λ text. text.now) key.entry)) }
@@ -309,7 +310,7 @@ fn basic_gives(alloc: Global, fields: &RequestFields, key: Option<&str>) -> Resu
     }
 }
 
-/// Returns whether a form gives the text under a name that is wanted, if one is.
+/// Returns whether a field of a form gives the text that is wanted, if one is.
 fn form_gives(alloc: Global, form: &[u8], name: &str, wanted: Option<&str>) -> Result<bool, Memory>
     ensures { IfOk result (λ b. b ≡ spec.gives (form_value name.now form.now)
         (option_map (λ text. text.now) wanted.entry)) }
@@ -320,7 +321,8 @@ fn form_gives(alloc: Global, form: &[u8], name: &str, wanted: Option<&str>) -> R
     }
 }
 
-/// Returns whether a form gives another text under a name than the one that is wanted, if one is. An empty one isn't.
+/// Returns whether a field of a form gives another text than the one that is wanted, if one is. An empty text doesn't
+/// count.
 fn form_mistakes(
     alloc: Global,
     form: &[u8],
@@ -341,7 +343,7 @@ impl<'a> Access<'a> {
     ghost use Rattle.lra_wire.specs.Request.{request_of};
     ghost use Rattle.lra_operators.specs.Access.{key_of, seen, admission_of};
 
-    /// Makes the access by a key, if there is one, and by the word of the forms.
+    /// Makes the access by a key, if there is one, and by the token of the forms.
     pub fn new(key: &'a Option<String>, token: &'a str) -> Access<'a>
         ensures key { key_of result ≡ option_map string_bytes key.now }
         ensures token { result.token.now ≡ token.now }
@@ -352,7 +354,7 @@ impl<'a> Access<'a> {
         }
     }
 
-    /// Returns what of a request for an operation says whether it may be made.
+    /// Returns the facts of a request for an operation that decide whether it may be made.
     fn see(
         &self,
         alloc: Global,
@@ -382,7 +384,7 @@ impl<'a> Access<'a> {
         })
     }
 
-    /// Returns whether a request for an operation may be made.
+    /// Returns whether a request for an operation may be made, or else why not.
     pub fn admit(
         &self,
         alloc: Global,

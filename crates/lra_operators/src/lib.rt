@@ -1,4 +1,4 @@
-//! The operators' port: requests in, replies out, over whatever tells of a service's histories.
+//! The operators' port: it answers requests, from an overview of a service's histories.
 #![tactic(auto)]
 
 mod access;

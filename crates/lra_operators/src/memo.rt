@@ -1,4 +1,4 @@
-//! Latest counts, and the moments since when actions are known of.
+//! The latest counts, and the moments from which on actions are known of.
 
 ghost use Rattle.std.specs.Prelude.{◌≡◌};
 
@@ -7,13 +7,13 @@ use lra_model::{ActionStatus, Memory};
 use lra_overview::{Census, Counts, Overview, Totals, Trouble, Waiting, count_all};
 use std::alloc::Global;
 
-/// For how many milliseconds a count is good.
+/// Number of milliseconds for which a count is fresh.
 const FRESH: u64 = 1_000;
 
 /// Largest number of marks that are kept.
 const MOST_MARKS: usize = 256;
 
-/// That there were so many actions at a moment.
+/// Number of actions that there were at a moment.
 #[derive(Clone, Copy)]
 struct Mark {
     actions: u64,
@@ -29,18 +29,18 @@ pub(crate) struct Counted {
     marks: Vec<Mark>,
 }
 
-/// Latest counts of each journal, and their moment. Counts are remembered for a second, so that asking often holds
-/// nobody up.
+/// Latest counts of each journal, and their moment. Counts are remembered for a second, so that frequent requests hold
+/// nothing up.
 #[derive(Drop)]
 pub struct Memo {
     moment: u64,
-    /// The newest last.
+    /// Counts of the journals, the newest last.
     journals: Vec<Counted>,
-    /// Totals of those journals that left, as was counted last.
+    /// Totals of the journals that left, as they were counted last.
     gone: Totals,
 }
 
-/// Which marks are kept, where they become too many: each second one.
+/// Returns the marks that are kept once there are too many: each second one.
 fn thin(alloc: Global, marks: &Vec<Mark>) -> Result<Vec<Mark>, Memory> {
     let mut kept = Vec::new(alloc);
     for (place, mark) in marks.as_slice().iter().enumerate() {
@@ -52,7 +52,7 @@ fn thin(alloc: Global, marks: &Vec<Mark>) -> Result<Vec<Mark>, Memory> {
 }
 
 impl Counted {
-    /// Nothing of it was counted.
+    /// Makes the counts of a journal of which nothing was counted.
     fn new(alloc: Global, instance: Instance) -> Counted {
         Counted {
             instance,
@@ -62,7 +62,7 @@ impl Counted {
         }
     }
 
-    /// Takes down how many actions there are at a moment.
+    /// Marks how many actions there are at a moment, if there are more than at the last mark.
     fn mark(&mut self, alloc: Global, moment: u64) -> Result<(), Memory> {
         let actions = self.counts.actions;
         if let Some(last) = self.marks.as_slice().last() {
@@ -77,7 +77,7 @@ impl Counted {
         Ok(())
     }
 
-    /// Counts anew.
+    /// Counts the journal anew.
     fn renew<O: Overview>(
         &mut self,
         alloc: Global,
@@ -99,7 +99,7 @@ impl Counted {
         self.age_of(oldest, moment).unwrap_or(0)
     }
 
-    /// Returns for how many milliseconds an action is known of, at a moment.
+    /// Returns for how many milliseconds an action has been known of, at a moment, if it has.
     fn age_of(&self, action: u64, moment: u64) -> Option<u64> {
         for mark in self.marks.as_slice() {
             if mark.actions >= action {
@@ -109,14 +109,14 @@ impl Counted {
         None
     }
 
-    /// Adds to actions that haven't ended for how long they are known of, at a moment.
+    /// Adds to each action that hasn't ended for how many milliseconds it has been known of, at a moment.
     pub(crate) fn add_ages(&self, waiting: &mut Vec<Waiting>, moment: u64) {
         for each in waiting.iter_mut() {
             each.age = self.age_of(each.row.action, moment);
         }
     }
 
-    /// Returns whether an action has a status, as was counted last.
+    /// Returns whether some action had a status when the journal was counted last.
     fn has(&self, status: ActionStatus) -> bool {
         self.counts
             .shares
@@ -147,7 +147,7 @@ impl Memo {
             .find(|counted| counted.instance == instance)
     }
 
-    /// Returns whether it is of the journals that are served.
+    /// Returns whether the memo has exactly the journals that are served, in their order.
     fn is_of<O: Overview>(&self, overview: &O) -> bool {
         for (place, counted) in self.journals.as_slice().iter().enumerate() {
             if overview.instance(place as u64) != Some(counted.instance) {
@@ -185,7 +185,7 @@ impl Memo {
         Ok(())
     }
 
-    /// Lets go of the journals that aren't served any more. What they had stays in the totals.
+    /// Removes the journals that aren't served any more. Adds their counts to the totals of those that left.
     fn leave<O: Overview>(&mut self, overview: &O) {
         for counted in self.journals.as_slice() {
             if !is_served(overview, counted.instance) {
@@ -196,7 +196,7 @@ impl Memo {
             .retain(|counted| is_served(overview, counted.instance));
     }
 
-    /// Counts anew.
+    /// Updates the list of journals to those that are served, and counts each anew.
     fn renew<O: Overview>(
         &mut self,
         alloc: Global,
@@ -212,7 +212,7 @@ impl Memo {
         Ok(())
     }
 
-    /// Returns whether it is good at a moment.
+    /// Returns whether the counts are fresh at a moment.
     fn is_fresh<O: Overview>(&self, overview: &O, moment: u64) -> bool {
         moment.saturating_sub(self.moment) < FRESH && self.is_of(overview)
     }
@@ -232,7 +232,7 @@ impl Memo {
         self.newest()
     }
 
-    /// Returns the first journal in which an action has a status, or else the newest.
+    /// Returns the latest counts of the first journal in which an action has a status, or else of the newest.
     pub(crate) fn first_with(&self, status: ActionStatus) -> Option<&Counted> {
         for counted in self.journals.as_slice() {
             if counted.has(status) {
@@ -242,7 +242,7 @@ impl Memo {
         self.newest()
     }
 
-    /// Returns how many there ever were, in those journals too that left.
+    /// Returns the totals of all journals, with those that left.
     pub(crate) fn totals(&self) -> Totals {
         let mut totals = self.gone;
         totals.add(&self.total());
@@ -267,7 +267,7 @@ impl Memo {
         age
     }
 
-    /// Returns the counts of a moment, or those of the second before it. Counts anew where those aren't good any more.
+    /// Returns the counts of a moment, or those of the second before it. Counts anew if those aren't fresh any more.
     pub(crate) fn look<'a, O: Overview>(
         memo: &'a mut Memo,
         alloc: Global,
@@ -282,7 +282,7 @@ impl Memo {
         Ok(memo)
     }
 
-    /// Nothing was counted.
+    /// Makes a memo of no counts.
     pub(crate) fn new(alloc: Global) -> Memo {
         Memo {
             moment: 0,

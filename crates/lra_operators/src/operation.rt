@@ -8,29 +8,29 @@ use lra_front::Path;
 /// Operation that a request asks for. Each operation has a path of its own.
 #[derive(Clone, Copy, Debug, PartialEq, Eq, Drop)]
 pub enum Operation {
-    /// To know a service's whole health.
+    /// Reads a service's whole health.
     Health,
-    /// To know whether it has to be started anew.
+    /// Reads whether the service has to be started anew.
     Live,
-    /// To know whether it takes what is begun.
+    /// Reads whether the service is ready for requests that begin something.
     Ready,
-    /// To know whether it has started.
+    /// Reads whether the service has started.
     Started,
-    /// To read the measures.
+    /// Reads the measures.
     Metrics,
-    /// To list actions.
+    /// Lists actions.
     Actions,
-    /// To know an action with its members.
+    /// Reads an action with its members.
     Action,
-    /// To close an action.
+    /// Closes an action.
     Close,
-    /// To cancel an action.
+    /// Cancels an action.
     Cancel,
-    /// To give a member up.
+    /// Gives a member up.
     GiveUp,
-    /// To see the first page.
+    /// Shows the first page.
     Home,
-    /// To see an action's page.
+    /// Shows an action's page.
     Tree,
 }
 
@@ -77,7 +77,7 @@ impl Path for Operation {
 }
 
 impl Operation {
-    /// Returns its method, the one that its path takes.
+    /// Returns the operation's method: the only one that its path accepts.
     pub fn method(self) -> &'static str
         ensures { result.now ≡ spec.method self }
     {
@@ -87,7 +87,7 @@ impl Operation {
         }
     }
 
-    /// Returns whether it gives an order.
+    /// Returns whether the operation gives an order.
     pub fn is_order(self) -> bool
         ensures { result ≡ spec.is_order self }
     {
@@ -97,7 +97,7 @@ impl Operation {
         )
     }
 
-    /// Returns a sentence that says what it does.
+    /// Returns a sentence that says what the operation does.
     pub fn summary(self) -> &'static str
         ensures { result.now ≡ spec.summary self }
     {
@@ -120,8 +120,8 @@ impl Operation {
         }
     }
 
-    /// Returns the status codes of its replies where it is done: of health 503 too, where it is down, and of an order
-    /// 303, where a form gave it.
+    /// Returns the status codes of the operation's replies when it is done. Health has 503 too, for a service that is
+    /// down. An order has 303, for an order that a form gave.
     pub fn success(self) -> &'static [u16]
         ensures { result.now ≡ spec.success self }
     {

@@ -17,16 +17,16 @@ use lra_wire::RequestRead;
 use serde_json::Value;
 use std::alloc::Global;
 
-/// The two ways of giving a member up.
+/// Way of giving a member up.
 #[derive(Clone, Copy, Debug, PartialEq, Eq)]
 enum GivingUp {
-    /// It ends so, as it would report itself.
+    /// The member ends with a failure, as it would report itself.
     Ends(Ending),
-    /// It has ended, and isn't told any more that its action has.
+    /// The member has ended, and isn't told any more that its action has.
     Untold,
 }
 
-/// Returns how a member is given up by a word.
+/// Returns the way of giving a member up that a word names.
 fn giving_up_named(word: &str) -> Option<GivingUp> {
     if word == "Ended" {
         return Some(GivingUp::Untold);
@@ -37,7 +37,7 @@ fn giving_up_named(word: &str) -> Option<GivingUp> {
     }
 }
 
-/// Returns the way in which a body gives a member up: a form, or an object.
+/// Returns the way of giving a member up that a body asks for. The body is a form, or an object of JSON.
 fn giving_up_in(alloc: Global, body: &[u8]) -> Result<Option<GivingUp>, Memory> {
     if let Some(word) = in_form(alloc, body, "status")? {
         return Ok(giving_up_named(word.as_str()));
@@ -88,7 +88,7 @@ fn cancel<O: Overview>(overview: &mut O, target: &str) -> Result<Told, Trouble>
     give(overview, found.instance, &Order::Cancel { action })
 }
 
-/// Ends what a member that has ended is asked.
+/// Stops the asks of a member that has ended.
 fn end_asking<O: Overview>(
     overview: &mut O,
     instance: Instance,
@@ -102,7 +102,7 @@ fn end_asking<O: Overview>(
     }
 }
 
-/// Gives up the member that a target names: it ends by its failure, or what it is asked once it has ended does.
+/// Gives up the member that a target names: ends it with a failure, or stops its asks if it has ended.
 fn give_up<O: Overview>(
     overview: &mut O,
     target: &str,
@@ -128,7 +128,7 @@ fn give_up<O: Overview>(
     }
 }
 
-/// Gives an operation's order for what a target names.
+/// Gives an operation's order for the action or member that a target names.
 fn order_of<O: Overview>(
     overview: &mut O,
     target: &str,

@@ -1,4 +1,4 @@
-//! The port: what each request does.
+//! The port, which handles each request.
 
 ghost use Rattle.std.specs.Prelude.{◌≡◌, ◌⊎◌, true, false, [], ◌∷◌, IfOk, string_bytes};
 ghost use Rattle.lra_wire.specs.Request.{request_of};
@@ -31,7 +31,7 @@ pub struct Port {
     memo: Memo,
 }
 
-/// The status code of a refusal.
+/// Returns the status code of a refusal.
 fn refusal_status(refusal: Refusal) -> StatusCode {
     match refusal {
         Refusal::NoSuchAction | Refusal::NoSuchMember => StatusCode::NOT_FOUND,
@@ -44,7 +44,7 @@ fn refusal_status(refusal: Refusal) -> StatusCode {
     }
 }
 
-/// The status code and the word of what isn't told.
+/// Returns the status code and the word of the reply for a trouble.
 fn trouble_told(trouble: Trouble) -> (StatusCode, &'static str) {
     match trouble {
         Trouble::Refused(Refusal::BadAddresses) => (StatusCode::BAD_REQUEST, "BadQuery"),
@@ -54,7 +54,7 @@ fn trouble_told(trouble: Trouble) -> (StatusCode, &'static str) {
     }
 }
 
-/// The status code and the word of a request that may not be made.
+/// Returns the status code and the word of the reply to a request by its admission.
 fn admission_told(admission: Admission) -> (StatusCode, &'static str) {
     match admission {
         Admission::Admitted => (StatusCode::OK, "Admitted"),
@@ -62,12 +62,12 @@ fn admission_told(admission: Admission) -> (StatusCode, &'static str) {
         Admission::WrongHost => (StatusCode::FORBIDDEN, "WrongHost"),
         Admission::Forged => (StatusCode::FORBIDDEN, "Forged"),
         Admission::NeedsKey => (StatusCode::FORBIDDEN, "NeedsKey"),
-        // Without `WWW-Authenticate`: what the browser has is right, and isn't to be asked for again.
+        // The reply has no `WWW-Authenticate`: the browser's key is right, and the browser isn't to ask for it again.
         Admission::MistypedKey => (StatusCode::FORBIDDEN, "WrongKey"),
     }
 }
 
-/// An object of one text.
+/// Makes a reply whose body is a JSON object of one text.
 fn one_text(
     alloc: Global,
     status: StatusCode,
@@ -81,7 +81,7 @@ fn one_text(
     Ok(reply)
 }
 
-/// The status that an order came to.
+/// Returns the name of the status that an order led to.
 fn status_told(told: Told) -> &'static str {
     match told {
         Told::Now(status) | Told::Already(status) => status.name(),
@@ -101,7 +101,7 @@ fn is_form(request: &RequestRead) -> bool {
 }
 
 impl Port {
-    /// One that has counted nothing yet.
+    /// Makes a port that has counted nothing yet.
     pub fn new(alloc: Global) -> Result<Port, Memory> {
         let routes = Routes::new(alloc)?;
         Ok(Port {
@@ -111,7 +111,7 @@ impl Port {
         })
     }
 
-    /// Returns the reply to a request that isn't served.
+    /// Returns the reply to a request whose path or method isn't served.
     fn tell_unserved<O: Overview>(
         &self,
         overview: &O,
@@ -133,7 +133,8 @@ impl Port {
         }
     }
 
-    /// That nothing is served at a target: as a page where it looks like one.
+    /// Returns the reply which says that nothing is served at a target. It is a page if the target looks like that of a
+    /// page.
     fn tell_no_path<O: Overview>(&self, overview: &O, target: &str) -> Result<Reply, Memory> {
         let code = StatusCode::NOT_FOUND;
         if !target.starts_with("/page") {
@@ -197,7 +198,8 @@ impl Port {
         }
     }
 
-    /// Returns the reply that tells what an order came to: a browser is sent to the first page.
+    /// Returns the reply that reports the outcome of an order. If a form gave the order, the reply sends the browser to
+    /// the first page.
     fn tell_done(&self, request: &RequestRead, told: Told) -> Result<Reply, Trouble>
         ensures { IfOk result (λ reply. has_code reply.status (200 ∷ 303 ∷ []) ≡ true) }
     {
@@ -219,7 +221,7 @@ impl Port {
     ) -> Result<Reply, Trouble>
         ensures orders { Orders (string_bytes request.now.target) operation (O.orders overview.old)
             (O.orders overview.new) }
-        // Where it is done, its code is one of the table.
+        // If the operation is done, the code of its reply is one of the table.
         ensures done { IfOk result (λ reply. has_code reply.status (success operation) ≡ true) }
     {
         if operation.is_order() {
@@ -228,7 +230,7 @@ impl Port {
         self.tell(overview, access, operation, request.target.as_str())
     }
 
-    /// Why a request may not be made.
+    /// Returns the reply that says why a request may not be made.
     fn tell_denied(&self, admission: Admission) -> Result<Reply, Memory> {
         let (status, word) = admission_told(admission);
         let mut reply = one_text(self.alloc, status, "error", word)?;
@@ -276,8 +278,8 @@ impl Port {
         }
     }
 
-    /// Returns the reply to a request. It gives the one order that it asks for, where its route leads to where that is
-    /// given and it may be made there, or none.
+    /// Returns the reply to a request. If the request's route asks for an order, and the request may be made, the port
+    /// gives that one order. Otherwise it gives none.
     pub fn answer<O: Overview>(
         &mut self,
         overview: &mut O,

@@ -8,11 +8,11 @@ use lra_wire::{ReplyWrite, WireFault, write_response_in};
 use std::alloc::Global;
 use std::io::Write;
 
-/// Policy of a page: a browser may show it, and send its forms back here.
+/// Policy of a page: a browser may show it, and send its forms back to this port.
 const POLICY: &str = "default-src 'none'; style-src 'unsafe-inline'; img-src data:; \
      form-action 'self'; frame-ancestors 'none'; base-uri 'none'";
 
-/// The kind of a reply's text.
+/// Kind of a reply's text.
 #[derive(Clone, Copy, PartialEq, Eq)]
 pub enum Kind {
     Json,
@@ -21,7 +21,7 @@ pub enum Kind {
 }
 
 impl Kind {
-    /// The value of `Content-Type`.
+    /// Returns the value of `Content-Type`.
     fn name(self) -> &'static str {
         match self {
             Kind::Json => "application/json",
@@ -36,13 +36,13 @@ impl Kind {
 pub struct Reply {
     pub status: StatusCode,
     pub kind: Kind,
-    /// A field of its own, where it has one.
+    /// Field beside those that all replies have, if there is one.
     pub field: Option<(&'static str, &'static str)>,
     pub text: Vec<u8>,
 }
 
 impl Reply {
-    /// One with a text.
+    /// Makes a reply with a text.
     pub(crate) fn new(status: StatusCode, kind: Kind, text: Vec<u8>) -> Reply
         ensures { result.status ≡ status }
     {
@@ -54,7 +54,7 @@ impl Reply {
         }
     }
 
-    /// All fields, where the text's length has these digits.
+    /// Returns all fields, for a text whose length has these digits.
     fn fields<'a>(
         &self,
         alloc: Global,
@@ -76,7 +76,7 @@ impl Reply {
         Ok(fields)
     }
 
-    /// Writes it. The stream is to be closed behind it.
+    /// Writes the reply. The stream has to be closed after it.
     pub fn write<W: Write>(&self, alloc: Global, writer: &mut W) -> Result<(), WireFault> {
         let Ok(digits) = format!(in alloc; "{}", self.text.len()) else {
             return Err(WireFault::Memory);

@@ -9,14 +9,14 @@ use lra_front::PathRouter;
 use lra_model::Memory;
 use std::alloc::Global;
 
-/// Why nothing is served.
+/// Reason why nothing is served.
 #[derive(Clone, Copy, Debug, PartialEq, Eq)]
 pub enum Unserved {
     NoSuchPath,
     BadMethod(Operation),
 }
 
-/// The paths that are served.
+/// Router of the paths that are served.
 #[derive(Drop)]
 pub struct Routes {
     router: PathRouter<Operation>,
@@ -42,7 +42,7 @@ fn before_slash(text: &str) -> &str
     }
 }
 
-/// The path of a target: what stands before its first question mark, or all of it.
+/// Returns the path of a target: what stands before its first question mark, or all of it.
 pub fn path_in(target: &str) -> &str
     ensures { result.now ≡ path_in target.now }
 {
@@ -52,7 +52,7 @@ pub fn path_in(target: &str) -> &str
     }
 }
 
-/// The query of a target: what follows its first question mark, or nothing.
+/// Returns the query of a target: what follows its first question mark, or nothing.
 pub fn query_in(target: &str) -> &str
     ensures { result.now ≡ after_first is_mark target.now }
 {
@@ -62,7 +62,7 @@ pub fn query_in(target: &str) -> &str
     }
 }
 
-/// The piece of a path that has the ID of an action or of a member.
+/// Returns the piece of a path that has the ID of an action or of a member.
 #[tactic(auto, unfolding(crate::specs::Routes::id_in))]
 pub fn id_in(path: &str) -> &str
     ensures { result.now ≡ id_in path.now }
@@ -71,13 +71,13 @@ pub fn id_in(path: &str) -> &str
 }
 
 impl Routes {
-    /// The paths that are served.
+    /// Makes the router of the paths that are served.
     pub fn new(alloc: Global) -> Result<Routes, Memory> {
         let router = PathRouter::new(alloc)?;
         Ok(Routes { router })
     }
 
-    /// Returns the operation of which a target has the path.
+    /// Returns the operation whose path a target has, if there is one.
     #[tactic(auto, unfolding(crate::specs::Routes::operation_at))]
     fn operation_at(&self, target: &str) -> Option<Operation>
         ensures { result ≡ operation_at target.now }
@@ -85,7 +85,7 @@ impl Routes {
         self.router.at(path_in(target))
     }
 
-    /// Returns what a request asks for: the path is looked at first, then the method.
+    /// Returns the operation that a request asks for. The path decides first, then the method.
     pub fn operation(&self, method: &str, target: &str) -> Result<Operation, Unserved>
         ensures { result ≡ operation_of method.now target.now }
     {

@@ -21,24 +21,24 @@ use lra_overview::{
 };
 use std::alloc::Global;
 
-/// Number of actions that a page usually has, and the largest.
+/// Number of actions that a page usually has, and the largest number.
 const USUAL: u64 = 100;
 
 const MOST: u64 = 1_000;
 
-/// The first journal.
+/// Returns the first journal.
 pub(crate) fn first_of<O: Overview>(overview: &O) -> Result<Instance, Trouble> {
     overview.instance(0).ok_or(Trouble::NoSuchJournal)
 }
 
-/// Target of an identifier: the instance of its journal, and its number there.
+/// Object that an identifier names: the instance of its journal, and its number there.
 #[derive(Clone, Copy)]
 pub(crate) struct Named {
     pub instance: Instance,
     pub number: u64,
 }
 
-/// Finds what an identifier names, among the journals that are there.
+/// Finds the object that an identifier names, among the journals that are there.
 pub(crate) fn find_named<O: Overview>(overview: &O, id: &str) -> Option<Named>
     ensures { IfSome result (λ found. IsSpelling (id_text found.instance) id.now found.number) }
 {
@@ -51,7 +51,7 @@ pub(crate) fn find_named<O: Overview>(overview: &O, id: &str) -> Option<Named>
     None
 }
 
-/// The action that a request's path names.
+/// Finds the action that a request's path names.
 pub(crate) fn action_named<O: Overview>(overview: &O, target: &str) -> Result<Named, Trouble>
     ensures { IfOk result (λ found. IsSpelling (id_text found.instance) (id_of (path_of target.now)) found.number) }
 {
@@ -61,23 +61,23 @@ pub(crate) fn action_named<O: Overview>(overview: &O, target: &str) -> Result<Na
     }
 }
 
-/// A list of actions as it is asked for.
+/// List of actions that a request asks for.
 #[derive(Clone, Copy)]
 struct Wanted {
     instance: Instance,
     status: Option<ActionStatus>,
     from: u64,
     most: u64,
-    /// The moment at which it is asked for.
+    /// Moment at which the request asks for it.
     moment: u64,
 }
 
-/// A text of a query.
+/// Returns the first field of a query that has a name, decoded, if there is one.
 fn text_in(alloc: Global, query: &str, name: &str) -> Result<Option<String>, Trouble> {
     Ok(in_form(alloc, query.as_bytes(), name)?)
 }
 
-/// The status that a query names, or nothing. A word that is none is a fault.
+/// Returns the status that a query names, or nothing. Fails if the word is no status.
 fn status_in(alloc: Global, query: &str) -> Result<Option<ActionStatus>, Trouble> {
     let Some(word) = text_in(alloc, query, "state")? else {
         return Ok(None);
@@ -88,7 +88,7 @@ fn status_in(alloc: Global, query: &str) -> Result<Option<ActionStatus>, Trouble
     }
 }
 
-/// Reads how many rows a query asks for.
+/// Returns how many rows a query asks for: 1 to `MOST`, and `USUAL` unless it says.
 fn most_in(alloc: Global, query: &str) -> Result<u64, Trouble> {
     let Some(word) = text_in(alloc, query, "limit")? else {
         return Ok(USUAL);
@@ -99,7 +99,7 @@ fn most_in(alloc: Global, query: &str) -> Result<u64, Trouble> {
     }
 }
 
-/// From where on a query asks for rows: from an action on.
+/// Returns the action from which on a query asks for rows, if it names one.
 fn from_in<O: Overview>(
     alloc: Global,
     overview: &O,
@@ -114,7 +114,7 @@ fn from_in<O: Overview>(
     }
 }
 
-/// The journal that a query names by its place, if it names one: the oldest has the place 0.
+/// Returns the journal that a query names by its place, if it names one. The oldest has the place 0.
 fn journal_in<O: Overview>(
     alloc: Global,
     overview: &O,
@@ -132,7 +132,7 @@ fn journal_in<O: Overview>(
     }
 }
 
-/// The list that a target asks for, of one journal unless it names another.
+/// Returns the list that a target asks for. It is of the usual journal unless the target names another.
 fn wanted_in<O: Overview>(
     alloc: Global,
     overview: &O,
@@ -157,14 +157,14 @@ fn wanted_in<O: Overview>(
     })
 }
 
-/// A reply of an empty page, which is filled.
+/// Makes a reply with the code 200 and an empty text, which the caller fills.
 fn empty(alloc: Global, kind: Kind) -> Reply
     ensures { has_code result.status (200 ∷ []) ≡ true }
 {
     Reply::new(StatusCode::OK, kind, Vec::new(alloc))
 }
 
-/// Returns whether the coordinator of each journal answers, and there is one.
+/// Returns whether there is a journal, and the coordinator of each journal answers.
 fn all_answer<O: Overview>(overview: &mut O) -> bool
     ensures { O.orders overview.new ≡ O.orders overview.old }
 {
@@ -183,7 +183,7 @@ fn all_answer<O: Overview>(overview: &mut O) -> bool
     false
 }
 
-/// Returns how many actions and members there are in the newest journal, where the coordinators answer.
+/// Returns how many actions and members there are in the newest journal, if all coordinators answer.
 fn answered_in<O: Overview>(
     alloc: Global,
     overview: &mut O,
@@ -205,7 +205,7 @@ fn answered_in<O: Overview>(
     })
 }
 
-/// A service's health, as a probe asks for it.
+/// Returns the reply that has a service's health, as a probe asks for it.
 pub(crate) fn tell_health<O: Overview>(
     alloc: Global,
     overview: &mut O,
@@ -225,7 +225,7 @@ pub(crate) fn tell_health<O: Overview>(
     Ok(reply)
 }
 
-/// Adds what is measured, of what was counted.
+/// Adds the measures to a page, from the facts and the counts.
 fn put_measures(page: &mut Vec<u8>, facts: &Facts, memo: &Memo) -> Result<(), Trouble> {
     let newest = match memo.newest() {
         Some(counted) => counted.counts,
@@ -259,7 +259,7 @@ pub(crate) fn tell_metrics<O: Overview>(
     Ok(reply)
 }
 
-/// A list of actions.
+/// Returns the reply that has a list of actions.
 pub(crate) fn tell_actions<O: Overview>(
     alloc: Global,
     overview: &mut O,
@@ -286,7 +286,7 @@ pub(crate) fn tell_actions<O: Overview>(
     Ok(reply)
 }
 
-/// Adds an action with its members.
+/// Adds an action with its members to a reply.
 fn lay_action(
     reply: &mut Reply,
     names: &Names<'_>,
@@ -306,7 +306,7 @@ fn lay_action(
     )
 }
 
-/// An action with its members.
+/// Returns the reply that has an action with its members.
 pub(crate) fn tell_action<O: Overview>(
     alloc: Global,
     overview: &mut O,
@@ -322,7 +322,7 @@ pub(crate) fn tell_action<O: Overview>(
     told
 }
 
-/// An action with its members, and what came of their last callbacks.
+/// Returns the reply that has an action with its members, and the outcomes of their last callbacks.
 fn tell_shown<O: Overview>(
     alloc: Global,
     overview: &mut O,
@@ -342,15 +342,15 @@ fn tell_shown<O: Overview>(
     Ok(reply)
 }
 
-/// Waits in a journal, from a place on, and the action to go on from.
+/// Actions of a journal from a place on, with what each waits for, and the action to go on from.
 #[derive(Drop)]
 struct Hanging {
     waiting: Vec<Waiting>,
     next: Option<u64>,
 }
 
-/// The actions of a journal that are wanted: those of a status, or else those that haven't ended, as its census knows
-/// where such are.
+/// Lists the actions of a journal that a request wants: those of a status, or else those that haven't ended. The
+/// journal's census says where to find these.
 fn list_wanted<O: Overview>(
     alloc: Global,
     overview: &mut O,
@@ -367,7 +367,7 @@ fn list_wanted<O: Overview>(
     }
 }
 
-/// Returns the actions that are wanted of a journal, with what each waits for.
+/// Returns the actions of a journal that a request wants, with what each waits for.
 fn find_hanging<O: Overview>(
     alloc: Global,
     overview: &mut O,
@@ -392,7 +392,7 @@ fn find_hanging<O: Overview>(
     }
 }
 
-/// Returns actions of a status, or that haven't ended, with how long each is known that hasn't ended.
+/// Returns the listed actions. If they haven't ended, adds for how long each has been known of.
 fn hanging_of(
     counted: &Counted,
     status: Option<ActionStatus>,
@@ -407,7 +407,7 @@ fn hanging_of(
     Hanging { waiting, next }
 }
 
-/// Returns whether actions are wanted that haven't ended.
+/// Returns whether the wanted actions are ones that haven't ended.
 fn is_open(status: Option<ActionStatus>) -> bool {
     matches!(
         status,
@@ -415,7 +415,7 @@ fn is_open(status: Option<ActionStatus>) -> bool {
     )
 }
 
-/// Adds the first page, of what was counted and what hangs.
+/// Returns the reply that has the first page, from the counts and the actions that were found.
 fn lay_home(
     alloc: Global,
     names: &Names<'_>,
@@ -438,7 +438,7 @@ fn lay_home(
     Ok(reply)
 }
 
-/// The first page, of one journal.
+/// Returns the reply that has the first page, with actions of one journal.
 fn show_journal<O: Overview>(
     alloc: Global,
     overview: &mut O,
@@ -460,7 +460,7 @@ fn show_journal<O: Overview>(
     lay_home(alloc, &names, forms, total, status, &found)
 }
 
-/// The first page, of what was counted.
+/// Returns the reply that has the first page, from the counts.
 fn show_home<O: Overview>(
     alloc: Global,
     overview: &mut O,
@@ -490,8 +490,8 @@ fn show_home<O: Overview>(
     }
 }
 
-/// The first page: what hasn't ended, the oldest first. Unless another journal is named, it is of the first in which
-/// there is something.
+/// Returns the reply that has the first page: what hasn't ended, the oldest first. Unless the target names another
+/// journal, the page is of the first one that has such actions.
 pub(crate) fn tell_home<O: Overview>(
     alloc: Global,
     overview: &mut O,
@@ -507,7 +507,7 @@ pub(crate) fn tell_home<O: Overview>(
     show_home(alloc, overview, known, forms, target, moment)
 }
 
-/// Adds an action's page.
+/// Returns the reply that has an action's page, from its tree and its members' lines.
 fn lay_tree(
     alloc: Global,
     names: &Names<'_>,
@@ -523,7 +523,7 @@ fn lay_tree(
     Ok(reply)
 }
 
-/// An action's page.
+/// Returns the reply that has an action's page.
 pub(crate) fn tell_tree<O: Overview>(
     alloc: Global,
     overview: &mut O,
@@ -547,7 +547,7 @@ pub(crate) fn tell_tree<O: Overview>(
     )
 }
 
-/// An action's page, with what came of its members' last callbacks.
+/// Returns the reply that has an action's page, with the outcomes of its members' last callbacks.
 fn show_tree<O: Overview>(
     alloc: Global,
     overview: &mut O,
@@ -568,7 +568,7 @@ fn show_tree<O: Overview>(
     lay_tree(alloc, &names, forms, row, nodes, lines.as_slice())
 }
 
-/// A path without its first piece.
+/// Returns a path without its first piece.
 fn after_first_piece(path: &str) -> &str {
     match path.split_once("/page") {
         Some((_, rest)) => rest,
@@ -576,7 +576,7 @@ fn after_first_piece(path: &str) -> &str {
     }
 }
 
-/// An action, and what it waits for.
+/// Returns an action, and what it waits for.
 fn show_row<O: Overview>(
     alloc: Global,
     overview: &mut O,

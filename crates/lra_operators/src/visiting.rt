@@ -1,4 +1,4 @@
-//! Replies to bytes that have come.
+//! Replies to the bytes that a client sent.
 
 ghost use Rattle.std.specs.Prelude.{IfSome};
 ghost use Rattle.lra_operators.specs.Orders.{AnswersBytes};
@@ -16,16 +16,16 @@ use std::alloc::Global;
 /// Largest number of bytes of a request, its head included.
 const MOST_BYTES: usize = 65_536;
 
-/// Front of the bytes that have come.
+/// Front of the bytes that a client sent.
 #[derive(Drop)]
 enum Came {
     Request(Front),
     Refused(WireFault),
-    /// More than a request may have.
+    /// More bytes than a request may have.
     TooMuch,
 }
 
-/// Reads what stands at the front of the bytes that have come, if it can be told yet.
+/// Reads the front of the bytes that a client sent. Returns nothing while it isn't known what they are.
 fn look(alloc: Global, bytes: &[u8]) -> Option<Came>
     ensures { IfSome result (IsRead bytes.now) }
 {
@@ -37,13 +37,12 @@ fn look(alloc: Global, bytes: &[u8]) -> Option<Came>
     }
 }
 
-/// Returns whether these bytes are enough for a reply: a request stands there that is whole, or it is known that none
-/// can.
+/// Returns whether these bytes are enough for a reply: they begin with a whole request, or it is known that they can't.
 pub fn is_enough(alloc: Global, bytes: &[u8]) -> bool {
     look(alloc, bytes).is_some()
 }
 
-/// The status code and the word of a fault of reading.
+/// Returns the status code and the word of the reply for a fault of reading.
 fn fault_told(fault: WireFault) -> (StatusCode, &'static str) {
     match fault {
         WireFault::Chunked => (StatusCode::NOT_IMPLEMENTED, "Chunked"),
@@ -56,7 +55,7 @@ fn fault_told(fault: WireFault) -> (StatusCode, &'static str) {
     }
 }
 
-/// The reply to what stands there.
+/// Returns the reply to the front of the bytes that a client sent.
 fn reply_of<O: Overview>(
     port: &mut Port,
     overview: &mut O,
@@ -75,8 +74,9 @@ fn reply_of<O: Overview>(
     }
 }
 
-/// Returns the reply to bytes that have come, or nothing where they aren't enough. The stream is to be closed behind
-/// it. They give the one order that the request asks for that they begin with, where it may be made, or none.
+/// Returns the reply to the bytes that a client sent, or nothing if they aren't enough. The stream has to be closed
+/// after the reply. If the bytes begin with a request for an order that may be made, this gives that one order.
+/// Otherwise it gives none.
 #[tactic(auto, using(crate::proofs::Giving::read_answers))]
 pub fn reply_to<O: Overview>(
     alloc: Global,

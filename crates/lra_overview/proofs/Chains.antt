@@ -1,4 +1,4 @@
--- What a page has after several texts were added, one after another.
+-- The contents of a page after several texts were added, one after another.
 use Rattle.std.proofs.Common.{◌≡◌, ℕ, List, [], ◌∷◌, ◌++◌, Result, Ok, Err, OnOk, append_assoc}
 use Rattle.std.proofs.lemmas.List.{append-nil}
 use Rattle.lra_overview.specs.Laying.{joined}

@@ -1,4 +1,4 @@
--- Which marks pages have: the same whatever is told in them.
+-- Pages have the same marks whatever texts from elsewhere they have.
 use Rattle.std.proofs.Common.{◌≡◌, ℕ, ◌==◌, Bool, true, false, List, [], ◌∷◌, inl, inr, refl, sym, subst, arith}
 use Rattle.std.specs.Prelude.{cond, length, codes}
 use Rattle.std.specs.List.{flat_map}
@@ -18,7 +18,7 @@ use Rattle.lra_overview.specs.Pages.{wants_telling, give_up, waiting, full_table
 use Rattle.lra_overview.specs.Pages.{no_rows}
 use Rattle.lra_overview.specs.Marks.{marks, HomeKeepsMarks, ActionKeepsMarks, ReplyKeepsMarks, PlainKeepsMarks}
 
--- no mark stands in what is spelled for a byte
+-- the escape of a byte has no mark
 abbrev HasNone : ℕ → Type 0
 HasNone b = marks (spelled b) ≡ []
 
@@ -44,12 +44,12 @@ none_spelled b = elim (eqb_tells b 60) [
   ]
 ]
 
--- nor in a text that is escaped
+-- an escaped text has no mark
 none_escaped : (text : List ℕ) → marks (escaped text) ≡ []
 none_escaped [] = refl
 none_escaped (b ∷ text) = simp (filter-append, none_spelled b, none_escaped text)
 
--- texts of which each has the marks of its like have the same marks, one after another
+-- if each text has the marks of its counterpart, the texts one after another have the same marks
 same_flat : {X : Type 0} (f g : X → List ℕ) → ((x : X) → marks (f x) ≡ marks (g x)) → (xs : List X)
     → marks (flat_map f xs) ≡ marks (flat_map g xs)
 same_flat f g h [] = refl

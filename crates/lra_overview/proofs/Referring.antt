@@ -1,4 +1,4 @@
--- That each `&` of each page begins a reference.
+-- Each `&` of each page begins a reference.
 use Rattle.std.proofs.Common.{◌≡◌, ℕ, ◌==◌, Bool, true, false, List, [], ◌∷◌, ◌++◌, Option, Some, None, refl}
 use Rattle.std.proofs.Common.{append_assoc}
 use Rattle.std.specs.Prelude.{cond, length, codes}

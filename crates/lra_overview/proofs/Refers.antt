@@ -1,4 +1,4 @@
--- Each `&` of a page begins a reference, whatever is told in it.
+-- Each `&` of a page begins a reference, whatever texts the page has.
 use Rattle.std.proofs.Common.{◌≡◌, ℕ, zero, suc, ◌==◌, ◌+◌, ◌-◌, ◌/◌, ◌%◌, ◌<◌, Bool, true, false, List, [], ◌∷◌, ◌++◌}
 use Rattle.std.proofs.Common.{inl, inr, refl, sym, ◌∙◌, subst, arith}
 use Rattle.std.specs.Prelude.{cond, codes, not, nat_lt, if◌then◌else◌, ◌&&◌, ◌||◌}
@@ -50,7 +50,7 @@ if_not false p h = refl
 
 -- ---- texts of which each `&` begins a reference
 
--- a reference stays one whatever follows
+-- a reference stays a reference whatever follows it
 begins_more : (c x y : List ℕ) → begins c x ≡ true → begins c (x ++ y) ≡ true
 begins_more [] x y h = refl
 begins_more (a ∷ c) [] y h = cc
@@ -66,7 +66,7 @@ any_more (name ∷ names) x y h =
     (list_any (λ n. begins n (x ++ y)) names)
     (begins_more name x y) (any_more names x y) h
 
--- such a text before another leaves it to the other
+-- such a text before another doesn't change whether the other refers
 skip : (x y : List ℕ) → refers x ≡ true → refers (x ++ y) ≡ refers y
 skip [] y h = refl
 skip (b ∷ x) y h =
@@ -225,7 +225,7 @@ refers_night = refl
 pub refers_key : refers KEY.now ≡ true
 refers_key = refl
 
--- texts one after another, of which each refers
+-- texts one after another, each of which refers
 abbrev pub AllRefer : List (List ℕ) → Type 0
 AllRefer [] = Unit {0}
 AllRefer (text ∷ texts) = (refers text ≡ true) × AllRefer texts
@@ -234,7 +234,7 @@ pub refers_joined : (texts : List (List ℕ)) → AllRefer texts → refers (joi
 refers_joined [] h = refl
 refers_joined (text ∷ texts) h = skip text (joined texts) h.0 ∙ refers_joined texts h.1
 
--- each before what follows it
+-- each kind of text, before what follows it
 pub skip_escaped : (text y : List ℕ) → refers (escaped text ++ y) ≡ refers y
 skip_escaped text y = skip (escaped text) y (refers_escaped text)
 
@@ -264,7 +264,7 @@ skip_kind k y = skip (ask_kind_name k) y (refers_kind_name k)
 pub skip_key : (y : List ℕ) → refers (KEY.now ++ y) ≡ refers y
 skip_key y = skip KEY.now y refers_key
 
--- a text whose likes refer, each before what follows it
+-- the texts of a list, one after another, if each refers
 pub refers_flat : {X : Type 0} (f : X → List ℕ) → ((x : X) → refers (f x) ≡ true) → (xs : List X)
     → refers (flat_map f xs) ≡ true
 refers_flat f h [] = refl

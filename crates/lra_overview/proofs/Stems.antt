@@ -1,4 +1,4 @@
--- The name of a journal, as it is written.
+-- The name of a journal's file, as it is written.
 use Rattle.std.proofs.Common.{◌≡◌, ◌-◌, ◌^◌, ℕ, false, [], length, refl, arith}
 use mathlib.Core.List.{append-nil}
 use Rattle.std.specs.Fmt.{digits, padded_integral, format_spec, char_count}

@@ -1,4 +1,4 @@
--- When a service is well.
+-- The health of a service.
 use Rattle.std.specs.Prelude.{ℕ, ◌-◌, nat_lt, nat_le, nat_eq, Bool, true, false, ◌&&◌, not, cond, List, [], ◌∷◌, ◌++◌}
 use Rattle.std.specs.Prelude.{length, replicate, codes, Option, Some, None, is_some}
 use Rattle.std.specs.Fmt.{decimal, digits}
@@ -9,11 +9,12 @@ use Rattle.lra_overview.specs.declared.health.Probe.TheVariants as probe
 use Rattle.lra_overview.specs.declared.health.Answered.{Answered}
 use Rattle.lra_overview.specs.Laying.{joined}
 
--- the journal takes and keeps what is written
+-- the journal accepts writes and makes them durable
 abbrev pub keeps : Facts → Bool
 keeps facts = not facts.has_failed
 
--- of what the coordinator told there are fewer than there may be; where it told nothing, nothing is known
+-- there are fewer actions and members than there may be, by the numbers that the coordinator reported; if it reported
+-- none, this holds
 abbrev pub counts_fit : Facts → Option Answered → Bool
 counts_fit facts (Some told) = nat_lt told.actions facts.most_actions && nat_lt told.members facts.most_members
 counts_fit facts None = true
@@ -23,7 +24,7 @@ abbrev pub has_room : Facts → Option Answered → Bool
 has_room facts answered = nat_lt facts.bytes facts.most_bytes && nat_lt facts.entries facts.most_entries
     && counts_fit facts answered
 
--- actions may be begun: the service isn't to end, neither now nor once its actions have
+-- new actions may be started: the service isn't to end, neither now nor once its actions have
 abbrev pub takes_starts : Facts → Bool
 takes_starts facts = not facts.is_ending
 
@@ -39,19 +40,19 @@ syncs_in_time facts = nat_le facts.sync_age facts.sync_limit
 abbrev pub has_threads : Facts → Bool
 has_threads facts = nat_eq facts.lost_workers 0 && nat_eq facts.lost_callback_workers 0
 
--- nothing is wrong that a new start would mend
+-- nothing is wrong that a restart would mend
 abbrev pub is_live : Facts → Option Answered → Bool
 is_live facts answered = keeps facts && is_some answered && has_threads facts
 
--- anything more is taken
+-- the service accepts anything more
 abbrev pub takes_more : Facts → Option Answered → Bool
 takes_more facts answered = has_room facts answered && takes_starts facts
 
--- nothing is late: no worker behind the set of journals, and no sync
+-- nothing is late: no worker lags behind the set of journals, and no sync takes too long
 abbrev pub is_timely : Facts → Bool
 is_timely facts = follows facts && syncs_in_time facts
 
--- all checks of a probe come out well (MicroProfile Health 4.0, liveness, readiness and startup)
+-- all checks of a probe succeed (MicroProfile Health 4.0, liveness, readiness and startup)
 abbrev pub is_up : Probe → Facts → Option Answered → Bool
 is_up probe.Whole facts answered = is_live facts answered && takes_more facts answered && is_timely facts
 is_up probe.Live facts answered = is_live facts answered
@@ -60,11 +61,11 @@ is_up probe.Started facts answered = true
 
 -- ---- texts (MicroProfile Health 4.0, the response's JSON)
 
--- the word for what came of a check
+-- the word for the outcome of a check
 abbrev pub word : Bool → List ℕ
 word up = cond up (codes "UP") (codes "DOWN")
 
--- a check's beginning: its name and what came of it
+-- a check's beginning: its name and its outcome
 abbrev pub check : List ℕ → Bool → List ℕ
 check name up = joined (codes "{\"name\":\"" ∷ name ∷ codes "\",\"status\":\"" ∷ word up ∷ codes "\"" ∷ [])
 
@@ -72,7 +73,7 @@ check name up = joined (codes "{\"name\":\"" ∷ name ∷ codes "\",\"status\":\
 abbrev pub measured : List ℕ → ℕ → List ℕ
 measured name n = joined (codes "\"" ∷ name ∷ codes "\":" ∷ decimal n ∷ [])
 
--- whether the journal takes and keeps what is written
+-- the check of whether the journal accepts writes and makes them durable
 abbrev pub journal : Facts → List ℕ
 journal facts =
     joined
@@ -85,7 +86,7 @@ journal facts =
     ∷ []
     )
 
--- that the coordinator answers, and what it told
+-- the check of a coordinator that answers, with the numbers that it reported
 abbrev pub answer : Answered → List ℕ
 answer told =
     joined
@@ -98,11 +99,11 @@ answer told =
     ∷ []
     )
 
--- that it doesn't
+-- the check of a coordinator that doesn't answer
 abbrev pub silence : List ℕ
 silence = joined (check (codes "lock") false ∷ codes "}" ∷ [])
 
--- whether it answers
+-- the check of whether the coordinator answers
 abbrev pub lock : Option Answered → List ℕ
 lock (Some told) = answer told
 lock None = silence
@@ -118,12 +119,12 @@ room_left facts told =
     ∷ []
     )
 
--- the same, where it is known how many there are
+-- the room for actions and members, if their numbers are known
 abbrev pub room_counted : Facts → Option Answered → List ℕ
 room_counted facts (Some told) = room_left facts told
 room_counted facts None = []
 
--- whether there is room, and how much
+-- the check of whether there is room, and how much
 abbrev pub room : Facts → Option Answered → List ℕ
 room facts answered =
     joined
@@ -137,11 +138,11 @@ room facts answered =
     ∷ []
     )
 
--- whether actions may be begun
+-- the check of whether new actions may be started
 abbrev pub starts : Facts → List ℕ
 starts facts = joined (check (codes "starts") (takes_starts facts) ∷ codes "}" ∷ [])
 
--- the checks of whether anything more is taken
+-- the checks of whether the service accepts anything more
 abbrev pub openings : Facts → Option Answered → List ℕ
 openings facts answered = joined (room facts answered ∷ codes "," ∷ starts facts ∷ [])
 
@@ -151,38 +152,38 @@ lost facts =
     joined (measured (codes "ended_workers") facts.lost_workers ∷ codes ","
     ∷ measured (codes "ended_callback_workers") facts.lost_callback_workers ∷ [])
 
--- the name of a journal, without its end: fifteen hexadecimal digits in lower case, zeros in front
+-- the name of a journal's file, without its extension: fifteen hexadecimal digits in lower case, with leading zeros
 unfoldable pub stem : ℕ → List ℕ
 stem i = replicate (15 - length (digits 16 false i)) 48 ++ digits 16 false i
 
--- that a journal's callbacks stand still
+-- the field for a journal whose callbacks stand still
 abbrev pub journal_standing : ℕ → List ℕ
 journal_standing i = joined (codes ",\"callbacks_of\":\"" ∷ stem i ∷ codes "\"" ∷ [])
 
--- whose callbacks stand still, if any do
+-- the field for the journal whose callbacks stand still, if any do
 abbrev pub standing : Facts → List ℕ
 standing facts = option_map_or journal_standing facts.standing []
 
--- whether all threads go on, and whose callbacks stand still where they don't
+-- the check of whether all threads run, and the journal whose callbacks stand still if they don't
 abbrev pub threads : Facts → List ℕ
 threads facts = joined (check (codes "threads") (has_threads facts) ∷ codes ",\"data\":{" ∷ lost facts ∷ standing facts
     ∷ codes "}}" ∷ [])
 
--- how long the sync under way has taken, and how long it may
+-- how long the sync under way has taken, and how long it may take
 abbrev pub ages : Facts → List ℕ
 ages facts = joined (measured (codes "age_ms") facts.sync_age ∷ codes "," ∷ measured (codes "limit_ms") facts.sync_limit
     ∷ [])
 
--- whether a sync takes too long
+-- the check of whether a sync takes too long
 abbrev pub sync : Facts → List ℕ
 sync facts = joined (check (codes "sync") (syncs_in_time facts) ∷ codes ",\"data\":{" ∷ ages facts ∷ codes "}}" ∷ [])
 
--- what is told beside of whether a worker is behind the set of journals: why that is
+-- the end of the check of the set of journals, with the reason if a worker lags behind the set
 abbrev pub set_data : Facts → List ℕ
 set_data facts = cond facts.lags
     (codes ",\"data\":{\"reason\":\"a worker can't follow a change of the set of journals\"}}") (codes "}")
 
--- that a worker is behind the set of journals, or that none is
+-- the check of whether a worker lags behind the set of journals
 abbrev pub set : Facts → List ℕ
 set facts = joined (check (codes "set") (follows facts) ∷ set_data facts ∷ [])
 
@@ -190,15 +191,15 @@ set facts = joined (check (codes "set") (follows facts) ∷ set_data facts ∷ [
 abbrev pub delays : Facts → List ℕ
 delays facts = joined (set facts ∷ codes "," ∷ sync facts ∷ [])
 
--- whether it has begun: that is so where anything is told
+-- the check of whether the service has started, which is so whenever it replies
 abbrev pub started : List ℕ
 started = joined (check (codes "started") true ∷ codes "}" ∷ [])
 
--- the checks of whether it should be started anew
+-- the checks of whether the service should be started anew
 abbrev pub live : Facts → Option Answered → List ℕ
 live facts answered = joined (journal facts ∷ codes "," ∷ lock answered ∷ codes "," ∷ threads facts ∷ [])
 
--- those of whether it can be sent requests
+-- the checks of whether clients can send requests to the service
 abbrev pub ready : Facts → Option Answered → List ℕ
 ready facts answered = joined (live facts answered ∷ codes "," ∷ openings facts answered ∷ codes "," ∷ delays facts
     ∷ [])

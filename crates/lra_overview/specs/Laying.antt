@@ -1,4 +1,4 @@
--- What texts are laid of.
+-- The pieces of texts, and how each is written (this project's own).
 use Rattle.std.specs.Prelude.{ℕ, ◌^◌, ◌/◌, nat_lt, Bool, ◌&&◌, cond, if◌then◌else◌, List, [], ◌∷◌, ◌++◌, codes}
 use Rattle.std.specs.Fmt.{decimal}
 use Rattle.lra_model.specs.Names.{action_status_name, member_status_name, ask_kind_name}
@@ -13,15 +13,16 @@ abbrev pub joined : List (List ℕ) → List ℕ
 joined [] = []
 joined (text ∷ texts) = text ++ joined texts
 
--- whether an identifier can have a number (RFC 9562, section 5.8: 62 bits are this project's own)
+-- whether a number can have an identifier (RFC 9562, section 5.8: the limit of 62 bits is this project's own)
 abbrev pub has_id : ℕ → Bool
 has_id n = nat_lt 0 n && nat_lt n (2 ^ 62)
 
--- the identifier of a number, and nothing where none can have it
+-- the identifier of a number, or nothing if the number can't have one
 abbrev pub id_of : ℕ → ℕ → List ℕ
 id_of i n = cond (has_id n) (id_text i n) []
 
--- so many milliseconds are told as seconds, minutes, hours or days: in the largest unit of which there are two
+-- the number of seconds, minutes, hours or days that so many milliseconds are written as: in the largest unit of which
+-- there are two at least, or else in seconds
 abbrev pub span_count : ℕ → ℕ
 span_count ms =
     if nat_lt ms 120000 then ms / 1000
@@ -41,8 +42,8 @@ span_unit ms =
 unfoldable pub span : ℕ → List ℕ
 span ms = joined (decimal (span_count ms) ∷ span_unit ms ∷ [])
 
--- a piece of a text: what is this program's own stands as it is, a text from elsewhere is escaped, and all others are
--- digits, identifiers and words
+-- a piece of a text: a text of this program stands as it is, a text from elsewhere is escaped, for HTML or as a JSON
+-- string, and all others are digits, identifiers and words
 abbrev pub spelled : ℕ → Piece → List ℕ
 spelled i (piece.Own text) = text.now
 spelled i (piece.Told text) = escaped text.now

@@ -1,4 +1,4 @@
--- Lists and actions in JSON.
+-- Lists and actions in JSON (this project's own).
 use Rattle.std.specs.Prelude.{ℕ, Bool, true, false, cond, List, [], ◌∷◌, ◌++◌, codes, string_bytes, Option, Some, None}
 use Rattle.std.specs.Fmt.{decimal}
 use Rattle.json.specs.Print.{quoted}
@@ -23,7 +23,7 @@ abbrev pub number : Option ℕ → List ℕ
 number None = codes "null"
 number (Some n) = decimal n
 
--- what an action's object begins with: its identifier, how it stands, and the one that it is nested in
+-- what an action's object begins with: its identifier, its status and the key of the action that it is nested in
 abbrev pub action_fields : ℕ → ActionRow → List ℕ
 action_fields i r =
     joined (codes "{\"action\":\"" ∷ id_of i r.action ∷ codes "\",\"status\":\"" ∷ action_status_name r.status
@@ -33,7 +33,7 @@ action_fields i r =
 abbrev pub row : ℕ → ActionRow → List ℕ
 row i r = joined (action_fields i r ∷ maybe i r.parent ∷ codes "}" ∷ [])
 
--- what stands before a row
+-- the separator before a row
 abbrev pub before : Bool → List ℕ
 before is_first = cond is_first (codes "\n ") (codes ",\n ")
 
@@ -42,7 +42,7 @@ abbrev pub rows : ℕ → Bool → List ActionRow → List ℕ
 rows i is_first [] = []
 rows i is_first (r ∷ rs) = before is_first ++ (row i r ++ rows i false rs)
 
--- what a member is to be asked next
+-- what a member is to be asked next, or null
 abbrev pub want : Option Want → List ℕ
 want None = codes "null"
 want (Some w) =
@@ -50,13 +50,13 @@ want (Some w) =
     (codes "{\"kind\":\"" ∷ ask_kind_name w.kind ∷ codes "\",\"repeats\":" ∷ decimal w.repeats ∷ codes ",\"due\":"
     ∷ decimal w.due ∷ codes "}" ∷ [])
 
--- what a member's object begins with: its identifier and how it stands
+-- what a member's object begins with: its identifier, its status and the key of its outstanding ask
 abbrev pub member_fields : ℕ → MemberRow → List ℕ
 member_fields i m =
     joined (codes "{\"member\":\"" ∷ id_of i m.member ∷ codes "\",\"status\":\"" ∷ member_status_name m.status
     ∷ codes "\",\"ask\":" ∷ [])
 
--- the last callback of a member that hasn't brought it further
+-- the last callback of a member that didn't bring it further, or null
 abbrev pub last : Option Tried → List ℕ
 last None = codes "null"
 last (Some t) =
@@ -90,7 +90,7 @@ abbrev pub members : ℕ → Bool → List Line → List ℕ
 members i is_first [] = []
 members i is_first (m ∷ ms) = before is_first ++ (member i m ++ members i false ms)
 
--- what an action waits for
+-- what an action waits for, or null
 abbrev pub awaited : ℕ → Option Awaited → List ℕ
 awaited i None = codes "null"
 awaited i (Some (wanted.Member p ask)) = joined (codes "{\"member\":\"" ∷ id_of i p ∷ codes "\"}" ∷ [])
@@ -101,11 +101,11 @@ unfoldable pub actions : ℕ → List ActionRow → Option ℕ → List ℕ
 actions i rs next = joined (codes "{\"actions\":[" ∷ rows i true rs ∷ codes "],\"next\":" ∷ maybe i next
     ∷ codes "}\n" ∷ [])
 
--- what is told of an action before its members
+-- the fields of an action that stand before its members
 abbrev pub head : ℕ → Waiting → List ℕ
 head i w = joined (action_fields i w.row ∷ maybe i w.row.parent ∷ codes ",\"awaits\":" ∷ awaited i w.awaited ∷ [])
 
--- whether there is more than is shown, and an object's end
+-- whether there may be more than is shown, and the object's end
 abbrev pub cut : Bool → List ℕ
 cut is_cut = cond is_cut (codes "],\"cut\":true}\n") (codes "],\"cut\":false}\n")
 

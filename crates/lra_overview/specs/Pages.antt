@@ -1,4 +1,4 @@
--- The pages for a browser.
+-- The pages for a browser (this project's own).
 use Rattle.std.specs.Prelude.{ℕ, ◌==◌, Bool, true, false, cond, List, [], ◌∷◌, length, codes, string_bytes, Option}
 use Rattle.std.specs.Prelude.{Some, None}
 use Rattle.std.specs.List.{flat_map}
@@ -27,14 +27,14 @@ use Rattle.lra_overview.specs.declared.page_parts.TheConstants.{HEAD, LOOKS, TAB
 use Rattle.lra_overview.specs.Laying.{joined, id_of, span}
 use Rattle.lra_overview.specs.Pictures.{picture}
 
--- what each page begins with: how it looks, and the base of the coordinator, which is escaped
+-- what each page begins with: its styles, and the base of the coordinator, which is escaped
 abbrev pub begin : List ℕ → List ℕ
 begin base = joined (HEAD.now ∷ LOOKS.now ∷ TABLES.now ∷ NIGHT.now ∷ codes "<p>The coordinator at <code>" ∷ escaped base
     ∷ codes "</code></p></header><main>\n" ∷ [])
 
 -- ---- forms
 
--- the fields that have a form taken: the token, which is escaped, and one for the key where it is needed
+-- the fields of a form that the port requires: the token, which is escaped, and one for the key if it is needed
 abbrev pub fields : List ℕ → Bool → List ℕ
 fields token needs_key =
     cond needs_key
@@ -52,16 +52,16 @@ cancel_form i token have_key a =
     ∷ []
     )
 
--- that form, of an action that is active
+-- the form that cancels an action, if the action is active
 abbrev pub cancel_at : ℕ → List ℕ → Bool → ℕ → ActionStatus → List ℕ
 cancel_at i token have_key a action_status.Active = cancel_form i token have_key a
 cancel_at i token have_key a _ = []
 
--- the form that cancels an action, where it may be
+-- the form that cancels an action, if the action can be cancelled
 abbrev pub cancel : ℕ → List ℕ → Bool → ActionRow → List ℕ
 cancel i token have_key row = cancel_at i token have_key row.action row.status
 
--- a form that has a member end so
+-- a form that gives a member up, with a question and the word for how the member ends
 abbrev pub give_up_form : ℕ → List ℕ → ℕ → List ℕ → List ℕ → List ℕ
 give_up_form i token p question ending =
     joined
@@ -73,7 +73,7 @@ give_up_form i token p question ending =
     ∷ []
     )
 
--- that form, of a member that is to complete or to compensate: it is given up by its failure
+-- the form of a member that is to complete or to compensate: the member is given up by its failure
 abbrev pub give_up_at : ℕ → List ℕ → ℕ → MemberStatus → List ℕ
 give_up_at i token p member_status.Completing = give_up_form i token p (codes "Have it count as failed for good?")
     (codes "FailedToComplete")
@@ -81,20 +81,20 @@ give_up_at i token p member_status.Compensating = give_up_form i token p (codes 
     (codes "FailedToCompensate")
 give_up_at i token p _ = []
 
--- a member is only to be told how its action ended
+-- whether a member is only to be told how its action ended
 abbrev pub wants_telling : Option Want → Bool
 wants_telling want = option_map_or (λ w. is_telling w.kind) want false
 
--- the form of a member that is only to be told how its action ended: it is given up by ending that
+-- the form of a member that is only to be told how its action ended: the member is given up by ending that
 unfoldable pub told_form : ℕ → List ℕ → ℕ → List ℕ
 told_form i token p = give_up_form i token p (codes "Tell it no more how its action ended?") (codes "Ended")
 
--- the form of a member's row, where there is something to give up
+-- the form of a member's row, if there is something to give up
 abbrev pub give_up_where_asked : ℕ → List ℕ → MemberRow → List ℕ
 give_up_where_asked i token row = cond (wants_telling row.want) (told_form i token row.member)
     (give_up_at i token row.member row.status)
 
--- the form that gives a member up, where there is a key
+-- the form that gives a member up, if there is a key
 abbrev pub give_up : ℕ → List ℕ → Bool → MemberRow → List ℕ
 give_up i token have_key row = cond have_key (give_up_where_asked i token row) []
 
@@ -128,7 +128,7 @@ awaited i (Some (wanted.Action a)) = joined
     (codes "action <a href=\"/page/actions/" ∷ id_of i a ∷ codes "\"><code>" ∷ id_of i a ∷ codes "</code></a>" ∷ [])
 awaited i (Some (wanted.Member p ask)) = awaited_member i p ask
 
--- what an action's line begins with: its identifier, as a link to its page, and how it stands
+-- what an action's line begins with: its identifier, as a link to its page, and its status
 abbrev pub action_cells : ℕ → ActionRow → List ℕ
 action_cells i row =
     joined
@@ -144,7 +144,7 @@ action_cells i row =
     ∷ []
     )
 
--- for how long an action is there at least, where that is known
+-- for how long an action has been there at least, if that is known
 abbrev pub age : Option ℕ → List ℕ
 age None = []
 age (Some ms) = joined (codes "over " ∷ span ms ∷ [])
@@ -153,7 +153,7 @@ age (Some ms) = joined (codes "over " ∷ span ms ∷ [])
 abbrev pub want_now : Want → List ℕ
 want_now w = joined (ask_kind_name w.kind ∷ codes " now, in vain " ∷ decimal w.repeats ∷ codes " times" ∷ [])
 
--- the same, in so many milliseconds
+-- what a member is to be asked next, and in how many milliseconds
 abbrev pub want_in : Want → ℕ → List ℕ
 want_in w left = joined (ask_kind_name w.kind ∷ codes " in " ∷ span left ∷ codes ", in vain " ∷ decimal w.repeats
     ∷ codes " times" ∷ [])
@@ -168,24 +168,24 @@ next_ask (Some n) w left = codes "is being asked"
 next_ask None (Some w) left = want w left
 next_ask None None left = []
 
--- the ask of the member that is waited for, where one is outstanding
+-- the outstanding ask to the member that an action waits for, if there is one
 abbrev pub ask_in : Option Awaited → Option ℕ
 ask_in (Some (wanted.Member p ask)) = ask
 ask_in (Some (wanted.Action a)) = None
 ask_in None = None
 
--- what an action waits for that hasn't ended
+-- what an action of a status waits for, if it hasn't ended
 abbrev pub waits_at : ℕ → ActionStatus → Option Awaited → List ℕ
 waits_at i action_status.Active w = awaited i w
 waits_at i action_status.Closing w = awaited i w
 waits_at i action_status.Cancelling w = awaited i w
 waits_at i _ w = []
 
--- the same of an action's row
+-- what an action waits for, if it hasn't ended
 abbrev pub waits : ℕ → Waiting → List ℕ
 waits i w = waits_at i w.row.status w.awaited
 
--- what an action waits for, and when that is asked next of which this ask is outstanding, if one is
+-- what an action waits for, and when that is asked next, by the outstanding ask to it, if there is one
 abbrev pub asked_cells : ℕ → Waiting → Option ℕ → List ℕ
 asked_cells i w ask = joined (waits i w ∷ codes "</td><td data-is=\"next\">" ∷ next_ask ask w.want w.left ∷ [])
 
@@ -207,7 +207,7 @@ waiting i token have_key w =
     ∷ []
     )
 
--- a table of some
+-- a table of actions, for a list that isn't empty
 abbrev pub full_table : ℕ → List ℕ → Bool → List Waiting → List ℕ
 full_table i token have_key rows =
     joined
@@ -218,16 +218,16 @@ full_table i token have_key rows =
     ∷ []
     )
 
--- that no action is listed
+-- the sentence that no action is listed
 abbrev pub no_rows : Option ActionStatus → List ℕ
 no_rows None = codes "<p>All actions have ended.</p>\n"
 no_rows (Some s) = codes "<p>None.</p>\n"
 
--- a table of those that are listed, or that there are none
+-- a table of the listed actions, or the sentence that there are none
 abbrev pub table : ℕ → List ℕ → Bool → Option ActionStatus → List Waiting → List ℕ
 table i token have_key state rows = cond (length rows == 0) (no_rows state) (full_table i token have_key rows)
 
--- a link to those that follow, where there may be more
+-- a link to the actions that follow, if there may be more
 abbrev pub next : ℕ → Option ActionStatus → Option ℕ → List ℕ
 next i state None = []
 next i None (Some a) = joined (codes "<p><a href=\"/?from=" ∷ id_of i a ∷ codes "\">Those after these</a></p>\n" ∷ [])
@@ -249,14 +249,14 @@ overdue o =
     ∷ []
     )
 
--- which actions are listed: those that haven't ended, or those of a status
+-- the heading that says which actions are listed: those that haven't ended, or those of a status
 abbrev pub title : Option ActionStatus → List ℕ
 title None = codes "<h2>Not ended, the oldest first</h2>\n"
 title (Some s) =
     joined (codes "<h2>" ∷ action_status_name s
     ∷ codes ", the oldest first</h2>\n<p><a href=\"/\">Those that have not ended</a></p>\n" ∷ [])
 
--- what the first page counts, and which actions it lists
+-- the counts of the first page, and the heading of its list
 abbrev pub counts : Home → List ℕ
 counts h = joined (codes "<ul class=\"counts\">\n" ∷ flat_map share h.shares.now ∷ overdue h.overdue
     ∷ title h.state ∷ [])
@@ -275,17 +275,17 @@ home i base token have_key h =
 
 -- ---- an action's page
 
--- what came of a member's last callback, how long ago, and at which address: both texts are escaped
+-- the report of a member's last callback: its outcome, how long ago that was, and its address; both texts are escaped
 abbrev pub reply : List ℕ → ℕ → List ℕ → List ℕ
 reply words ms address = joined (escaped words ∷ codes ", " ∷ span ms ∷ codes " ago<br><code>" ∷ escaped address
     ∷ codes "</code>" ∷ [])
 
--- that, where it is remembered
+-- the report of a member's last callback, if it is remembered
 abbrev pub tried : Option Tried → List ℕ
 tried None = []
 tried (Some t) = reply (string_bytes t.words) t.age (string_bytes t.address)
 
--- what a member's line begins with: its identifier and how it stands
+-- what a member's line begins with: its identifier and its status
 abbrev pub member_cells : ℕ → MemberRow → List ℕ
 member_cells i row =
     joined
@@ -324,22 +324,22 @@ members i token have_key lines =
     ∷ []
     )
 
--- what an action waits for, behind its status
+-- what an action waits for, after its status
 abbrev pub open_end : ℕ → Option Awaited → List ℕ
 open_end i w = joined (codes ", waits for " ∷ awaited i w ∷ [])
 
--- that, where the action hasn't ended
+-- what an action of a status waits for, after the status, if it hasn't ended
 abbrev pub wait_at : ℕ → ActionStatus → Option Awaited → List ℕ
 wait_at i action_status.Active w = open_end i w
 wait_at i action_status.Closing w = open_end i w
 wait_at i action_status.Cancelling w = open_end i w
 wait_at i _ w = []
 
--- the same of an action's row
+-- what an action waits for, after its status, if it hasn't ended
 abbrev pub wait : ℕ → Waiting → List ℕ
 wait i w = wait_at i w.row.status w.awaited
 
--- which action it is and how it stands
+-- the heading of an action: its identifier, its status and what it waits for
 abbrev pub heading : ℕ → Waiting → List ℕ
 heading i w =
     joined
@@ -358,13 +358,13 @@ heading i w =
     ∷ []
     )
 
--- which action it is nested in, if it is
+-- the action that an action is nested in, if there is one
 abbrev pub parent : ℕ → Option ℕ → List ℕ
 parent i None = []
 parent i (Some a) = joined (codes "<p>Nested in <a href=\"/page/actions/" ∷ id_of i a ∷ codes "\"><code>" ∷ id_of i a
     ∷ codes "</code></a></p>\n" ∷ [])
 
--- an action's page: how it stands, its tree as a picture, and the members of all that is shown
+-- an action's page: its status, its tree as a picture, and the members of all actions that are shown
 unfoldable pub action : ℕ → List ℕ → List ℕ → Bool → Waiting → List Node → List Line → List ℕ
 action i base token have_key w nodes lines =
     joined
@@ -380,7 +380,7 @@ action i base token have_key w nodes lines =
 
 -- ---- a page of one sentence
 
--- a sentence of this program, and a text from elsewhere, which is escaped
+-- a page of a sentence of this program, and of a text from elsewhere, which is escaped
 unfoldable pub plain : List ℕ → List ℕ → List ℕ → List ℕ
 plain base sentence text =
     joined

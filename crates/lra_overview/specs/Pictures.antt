@@ -1,4 +1,4 @@
--- The picture of what hangs below an action.
+-- The picture of the tree below an action (this project's own).
 use Rattle.std.specs.Prelude.{ℕ, ◌+◌, ◌-◌, ◌*◌, ◌^◌, min, max, List, [], ◌∷◌, length, codes, Option, Some, None}
 use Rattle.std.specs.List.{flat_map}
 use Rattle.std.specs.Fmt.{decimal}
@@ -10,7 +10,7 @@ use Rattle.lra_overview.specs.declared.tree.NodeOf.{NodeOf}
 use Rattle.lra_overview.specs.declared.tree.NodeOf.TheVariants as node_of
 use Rattle.lra_overview.specs.Laying.{joined, id_of}
 
--- the line from the node above to a node: down at that node's place, and then right
+-- the stroke from the node above to a node: down to the node's line, and then right
 abbrev pub branch : ℕ → ℕ → Option ℕ → List ℕ
 branch depth line None = []
 branch depth line (Some above) =
@@ -25,7 +25,7 @@ branch depth line (Some above) =
     ∷ []
     )
 
--- an action: a disk, its identifier and how it stands
+-- an action: a disk, its identifier and its status
 abbrev pub action : ℕ → ℕ → ℕ → ActionRow → List ℕ
 action i depth line row =
     joined
@@ -47,7 +47,7 @@ action i depth line row =
     ∷ []
     )
 
--- a member: a square, its identifier and how it stands
+-- a member: a square, its identifier and its status
 abbrev pub member : ℕ → ℕ → ℕ → MemberRow → List ℕ
 member i depth line row =
     joined
@@ -69,16 +69,16 @@ member i depth line row =
     ∷ []
     )
 
--- what a node stands for
+-- the mark of a node: its action or its member
 abbrev pub mark : ℕ → ℕ → ℕ → NodeOf → List ℕ
 mark i depth line (node_of.Action row) = action i depth line row
 mark i depth line (node_of.Member row) = member i depth line row
 
--- a node, with the line from the one above it
+-- a node, with the stroke from the one above it
 abbrev pub node : ℕ → Node → List ℕ
 node i n = joined (branch n.depth n.line n.above ∷ mark i n.depth n.line n.of ∷ [])
 
--- how deep the deepest node hangs
+-- the depth of the deepest node
 abbrev pub deepest : List Node → ℕ
 deepest [] = 0
 deepest (n ∷ nodes) = max n.depth (deepest nodes)
@@ -95,7 +95,7 @@ opening width height =
     ∷ []
     )
 
--- the picture, as wide as its deepest node wants and as high as its nodes need
+-- the picture, as wide as its deepest node needs and as high as its nodes need
 unfoldable pub picture : ℕ → List Node → List ℕ
 picture i nodes =
     joined

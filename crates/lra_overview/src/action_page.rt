@@ -1,4 +1,4 @@
-//! An action's page for a browser: how it stands, its tree, and the members, with what came of their last callbacks.
+//! An action's page for a browser: its status, its tree, and its members, with the outcomes of their last callbacks.
 
 ghost use Rattle.std.specs.Prelude.{◌≡◌, ◌++◌, OnOk};
 ghost use Rattle.std.specs.List.{flat_map};
@@ -15,7 +15,7 @@ use lra_commands::{Awaited, Want};
 use lra_model::{ActionStatus, MemberStatus, Memory};
 use lra_outcomes::is_telling;
 
-/// Adds a form that has a member end so.
+/// Adds a form that gives a member up, with a question and the word for how the member ends.
 fn put_give_up_form(
     page: &mut Vec<u8>,
     names: &Names<'_>,
@@ -43,13 +43,13 @@ fn put_give_up_form(
     names.put_all(page, &closing)
 }
 
-/// The question that is asked back before a member that is waited for is given up.
+/// Question that asks an operator to confirm giving up a member whose end is awaited.
 const AS_FAILED: &str = "Have it count as failed for good?";
 
-/// The same of a member that is only to be told how its action ended.
+/// Question that asks an operator to confirm giving up a member that is only to be told how its action ended.
 const AS_TOLD: &str = "Tell it no more how its action ended?";
 
-/// Adds a form that gives a member of a status up, where it is being asked to end.
+/// Adds a form that gives a member up, if its status says that it is being asked to end.
 fn put_give_up_at(
     page: &mut Vec<u8>,
     names: &Names<'_>,
@@ -81,7 +81,7 @@ fn wants_telling(want: Option<Want>) -> bool
     }
 }
 
-/// Adds a form that gives a member up, where it is being asked to end, or is only to be told how its action ended.
+/// Adds a form that gives a member up, if it is being asked to end, or is only to be told how its action ended.
 #[tactic(auto, unfolding(crate::specs::Pages::told_form))]
 fn put_give_up_where_asked(
     page: &mut Vec<u8>,
@@ -99,7 +99,7 @@ fn put_give_up_where_asked(
     }
 }
 
-/// Adds a form that gives a member up, where there is a key.
+/// Adds a form that gives a member up, if there is a key.
 fn put_give_up(
     page: &mut Vec<u8>,
     names: &Names<'_>,
@@ -116,7 +116,7 @@ fn put_give_up(
     }
 }
 
-/// Adds what came of a member's last callback, and at which address.
+/// Adds the outcome of a member's last callback, and its address.
 fn put_tried(page: &mut Vec<u8>, names: &Names<'_>, tried: &Option<Tried>) -> Result<(), Memory>
     ensures { OnOk result (page.new.items ≡ page.old.items ++ pages.tried tried.now) }
 {
@@ -181,7 +181,7 @@ fn put_lines(
     Ok(())
 }
 
-/// Adds a table of the members of a tree, behind its picture, and the page's end.
+/// Adds a table of the members of a tree, after its picture, and the page's end.
 fn put_members(
     page: &mut Vec<u8>,
     names: &Names<'_>,
@@ -207,7 +207,7 @@ fn put_members(
     )
 }
 
-/// Adds what an action waits for, behind its status.
+/// Adds what an action waits for, after its status.
 fn put_open_end(
     page: &mut Vec<u8>,
     names: &Names<'_>,
@@ -219,7 +219,7 @@ fn put_open_end(
     put_awaited(page, names, awaited)
 }
 
-/// Adds what an action waits for, where it hasn't ended.
+/// Adds what an action waits for, if it hasn't ended.
 fn put_wait(page: &mut Vec<u8>, names: &Names<'_>, waiting: &Waiting) -> Result<(), Memory>
     ensures { OnOk result (page.new.items ≡ page.old.items ++ pages.wait names.now.instance waiting.now) }
 {
@@ -231,7 +231,7 @@ fn put_wait(page: &mut Vec<u8>, names: &Names<'_>, waiting: &Waiting) -> Result<
     }
 }
 
-/// Adds which action it is and how it stands.
+/// Adds the heading of an action: its identifier, its status and what it waits for.
 fn put_heading(page: &mut Vec<u8>, names: &Names<'_>, waiting: &Waiting) -> Result<(), Memory>
     ensures { OnOk result (page.new.items ≡ page.old.items ++ pages.heading names.now.instance waiting.now) }
 {
@@ -249,7 +249,7 @@ fn put_heading(page: &mut Vec<u8>, names: &Names<'_>, waiting: &Waiting) -> Resu
     names.put_all(page, &[Piece::Own("</p>\n")])
 }
 
-/// Adds which action it is nested in, if it is.
+/// Adds the action that an action is nested in, if there is one.
 fn put_parent(page: &mut Vec<u8>, names: &Names<'_>, parent: Option<u64>) -> Result<(), Memory>
     ensures { OnOk result (page.new.items ≡ page.old.items ++ pages.parent names.now.instance parent) }
 {
@@ -268,7 +268,7 @@ fn put_parent(page: &mut Vec<u8>, names: &Names<'_>, parent: Option<u64>) -> Res
     }
 }
 
-/// Adds an action's page: how it stands, its tree, and the members of all that is shown.
+/// Adds an action's page: its status, its tree, and the members of all actions that are shown.
 pub fn put_action_page(
     page: &mut Vec<u8>,
     names: &Names<'_>,

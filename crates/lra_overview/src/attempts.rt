@@ -1,4 +1,4 @@
-//! Members, and what came of the last callbacks of those that wait.
+//! Members, and the outcomes of the last callbacks of those that wait.
 
 ghost use Rattle.std.specs.Prelude.{◌≡◌};
 ghost use Rattle.lra_overview.specs.Laying as laying;
@@ -13,23 +13,23 @@ use lra_model::Memory;
 use lra_outcomes::{Attempt, Reply, put_words};
 use std::alloc::{AllocError, Global};
 
-/// The last callback of a member that hasn't brought it further, as it is told.
+/// Last callback of a member that didn't bring it further, as it is reported.
 #[derive(Drop)]
 pub struct Tried {
-    /// The address that was asked.
+    /// Address that was called.
     pub address: String,
-    /// Its outcome, in words.
+    /// Outcome of the callback, in words.
     pub words: String,
-    /// The moment at which that was, and how many milliseconds ago.
+    /// Moment of the outcome, and how many milliseconds ago that was.
     pub moment: u64,
     pub age: u64,
 }
 
-/// A member, and the last callback of it, where one is remembered.
+/// Member, and its last callback, if one is remembered.
 #[derive(Drop)]
 pub struct Line {
     pub row: MemberRow,
-    /// The number of milliseconds that are left until it is asked next, where it is to be.
+    /// Number of milliseconds that are left until the member is asked next, if it is to be asked.
     pub left: u64,
     pub tried: Option<Tried>,
 }
@@ -44,7 +44,7 @@ fn words_of(alloc: Global, reply: Reply) -> Result<String, Memory> {
     }
 }
 
-/// Returns what is told of a callback at a moment.
+/// Returns the report of a callback, at a moment.
 fn tried_of(alloc: Global, attempt: Attempt, moment: u64) -> Result<Tried, Memory> {
     let Attempt {
         address,
@@ -62,7 +62,7 @@ fn tried_of(alloc: Global, attempt: Attempt, moment: u64) -> Result<Tried, Memor
     }
 }
 
-/// Returns what is told of the last callback of a member, where it waits and one is remembered.
+/// Returns the report of the last callback of a member, if the member waits and the callback is remembered.
 fn find_tried<O: Overview>(
     alloc: Global,
     overview: &mut O,
@@ -111,7 +111,8 @@ fn add_lines<O: Overview>(
     Ok(())
 }
 
-/// Returns the lines of members at a moment: each with the last callback of it, where it waits and one is remembered.
+/// Returns the lines of members at a moment. Each has the member's last callback, if the member waits and the callback
+/// is remembered.
 pub fn lines_of<O: Overview>(
     alloc: Global,
     overview: &mut O,
@@ -139,7 +140,7 @@ pub fn members_in(alloc: Global, nodes: &[Node]) -> Result<Vec<MemberRow>, Memor
     Ok(rows)
 }
 
-/// Returns whether the last callback of a member was answered that it is at it.
+/// Returns whether a member answered its last callback that it is at it.
 pub(crate) fn is_at_it<O: Overview>(
     alloc: Global,
     overview: &mut O,

@@ -1,4 +1,4 @@
-//! The number of actions that have each status, counted so that what can't change is counted once.
+//! Counts of the actions that have each status. Actions that can't change any more are counted only once.
 
 ghost use Rattle.std.specs.Prelude.{◌≡◌};
 
@@ -11,10 +11,10 @@ use lra_ids::Instance;
 use lra_model::ActionStatus;
 use std::alloc::Global;
 
-/// The number of rows that one query looks at. So many actions, one after another, are a stretch.
+/// Number of rows that one query reads. So many actions, one after another, are a stretch.
 pub(crate) const STRETCH: u64 = 256;
 
-/// The statuses in the order in which they are asked for: most actions of a stretch have the first of them.
+/// Statuses in the order in which the census asks for them: most actions of a stretch have the first of them.
 const ASKED: [ActionStatus; 7] = [
     ActionStatus::Closed,
     ActionStatus::Active,
@@ -25,32 +25,30 @@ const ASKED: [ActionStatus; 7] = [
     ActionStatus::FailedToCancel,
 ];
 
-/// The knowledge of a journal's actions. Those of a stretch in which all have ended are counted once; the others are
-/// counted again each time.
+/// Counts of a journal's actions. A stretch in which all actions have ended is counted once. The others are counted
+/// again each time.
 #[derive(Drop)]
 pub struct Census {
-    /// Where those stretches begin in which some haven't ended.
+    /// Places where the stretches begin in which some actions haven't ended.
     open: Vec<u64>,
-    /// Where those begin in which some are closing or cancelling, as was counted last.
+    /// Places where the stretches begin in which some actions were closing or cancelling at the last count.
     ending: Vec<u64>,
-    /// From this place on no stretch is whole, or none was looked at.
+    /// Place from which on no stretch is whole, or none was counted.
     behind: u64,
-    /// The number of actions of each status, of those whose stretches aren't open.
+    /// Numbers of actions of each status, in stretches that aren't open.
     ended: Shares,
-    /// The knowledge of the members that are still to be told how their action ended.
+    /// Counts of the members that are still to be told how their action ended.
     telling: Telling,
 }
 
-/// The number of rows of a stretch that belong to a listing, and the place where the next stretch begins, if there is
-/// one.
+/// Number of rows of a stretch that belong to a listing, and the place where the next stretch begins, if there is one.
 #[derive(Clone, Copy)]
 struct Part {
     count: u64,
     next: Option<u64>,
 }
 
-/// The number of actions of a stretch that have each status, and the place where the next stretch begins, if there is
-/// one.
+/// Numbers of actions of a stretch that have each status, and the place where the next stretch begins, if there is one.
 #[derive(Clone, Copy)]
 struct Stretch {
     shares: Shares,
@@ -58,7 +56,7 @@ struct Stretch {
 }
 
 impl Stretch {
-    /// Returns whether it is whole, and all its actions have ended.
+    /// Returns whether the stretch is whole, and all its actions have ended.
     fn is_over(&self) -> bool {
         self.next.is_some() && count_ended(&self.shares) == STRETCH
     }
@@ -83,7 +81,7 @@ fn count_at<O: Overview>(
     }
 }
 
-/// Adds how many actions of a stretch have each status, until so many are found.
+/// Adds how many actions of a stretch have each status. Stops once `rows` actions are found.
 fn add_stretch<O: Overview>(
     overview: &mut O,
     instance: Instance,
@@ -105,7 +103,7 @@ fn add_stretch<O: Overview>(
     Ok(())
 }
 
-/// Counts a stretch.
+/// Counts the actions of a stretch, by their status.
 fn count_stretch<O: Overview>(
     overview: &mut O,
     instance: Instance,
@@ -123,7 +121,7 @@ fn count_stretch<O: Overview>(
 }
 
 impl Census {
-    /// Nothing was counted.
+    /// Makes a census that has counted nothing.
     pub fn new(alloc: Global) -> Census {
         Census {
             open: Vec::new(alloc),
@@ -134,7 +132,7 @@ impl Census {
         }
     }
 
-    /// Counts the open stretches again. Those that aren't open any more are taken down so.
+    /// Counts the open stretches again. Those whose actions have all ended become closed, and aren't counted again.
     fn count_open<O: Overview>(
         &mut self,
         overview: &mut O,
@@ -164,7 +162,7 @@ impl Census {
         Ok(())
     }
 
-    /// Takes down that some of a stretch are closing or cancelling, where that is so.
+    /// Notes a stretch if some of its actions are closing or cancelling.
     fn note_ending(&mut self, place: u64, stretch: &Stretch) -> Result<(), Trouble> {
         if count_ending(&stretch.shares) > 0 {
             self.ending.push(place)?;
@@ -172,7 +170,7 @@ impl Census {
         Ok(())
     }
 
-    /// Takes down a stretch that is whole. Those that it has are told beside, where they may change.
+    /// Notes a stretch that is whole. Adds its counts to `shares` if they may still change.
     fn note(&mut self, place: u64, stretch: &Stretch, shares: &mut Shares) -> Result<(), Trouble> {
         if stretch.is_over() {
             add_shares(&mut self.ended, &stretch.shares);
@@ -183,7 +181,7 @@ impl Census {
         Ok(())
     }
 
-    /// Counts what lies behind.
+    /// Counts the actions after the stretches that were counted before.
     fn count_behind<O: Overview>(
         &mut self,
         overview: &mut O,
@@ -206,7 +204,7 @@ impl Census {
         Ok(())
     }
 
-    /// Counts all.
+    /// Counts all actions, by their status.
     fn try_count<O: Overview>(
         &mut self,
         overview: &mut O,
@@ -222,7 +220,7 @@ impl Census {
         Ok(shares)
     }
 
-    /// Counts the actions that have each status now. Where that can't be told, all is counted again the next time.
+    /// Counts the actions that have each status now. If that fails, the next count starts from the first action.
     pub(crate) fn count<O: Overview>(
         &mut self,
         overview: &mut O,
@@ -239,7 +237,7 @@ impl Census {
         counted
     }
 
-    /// Returns how many members are still to be told how their action ended, as far as was looked.
+    /// Returns how many members are still to be told how their action ended, of those that were read so far.
     pub(crate) fn count_untold<O: Overview>(
         &mut self,
         overview: &mut O,
@@ -250,13 +248,13 @@ impl Census {
         self.telling.count(overview, instance)
     }
 
-    /// Where those stretches begin in which some actions are closing or cancelling, as was counted last, in their
-    /// order.
+    /// Returns the places where the stretches begin in which some actions were closing or cancelling at the last count,
+    /// in their order.
     pub(crate) fn ending(&self) -> &[u64] {
         self.ending.as_slice()
     }
 
-    /// The first place from one on at which an action may be that hasn't ended.
+    /// Returns the first place, from one on, at which there may be an action that hasn't ended.
     pub(crate) fn first_open(&self, from: u64) -> u64 {
         if from >= self.behind {
             return from;

@@ -1,4 +1,4 @@
-//! The counts of actions and members.
+//! Counts of actions and members.
 
 ghost use Rattle.std.specs.Prelude.{◌≡◌, ◌≤◌, ◌<◌, ◌+◌, ◌^◌};
 
@@ -12,26 +12,26 @@ use lra_commands::{CounterFault, Known, Query, Refusal};
 use lra_ids::Instance;
 use std::alloc::Global;
 
-/// The most bits that the greatest number of an action or of a member has: a journal has no more bytes than such a
-/// number says.
+/// Largest number of bits of the number of an action or of a member. A journal's number of bytes has no more bits
+/// either.
 const MOST_BITS: u32 = 31;
 
-/// The counts of actions and members, at some moment.
+/// Counts of actions and members, at some moment.
 #[derive(Clone, Copy)]
 pub struct Counts {
     pub shares: Shares,
     pub actions: u64,
     pub members: u64,
-    /// The first action that hasn't ended.
+    /// First action that hasn't ended.
     pub oldest: Option<u64>,
-    /// The members that hold up ends.
+    /// Numbers of members that hold up ends.
     pub overdue: Overdue,
-    /// The number of members that are still to be told how their action ended.
+    /// Number of members that are still to be told how their action ended.
     pub untold: u64,
 }
 
 impl Counts {
-    /// There is nothing.
+    /// Returns counts of 0.
     pub fn none() -> Counts {
         Counts {
             shares: NONE,
@@ -43,7 +43,7 @@ impl Counts {
         }
     }
 
-    /// Adds as many as another journal has.
+    /// Adds the counts of another journal.
     pub fn add(&mut self, others: &Counts) {
         add_shares(&mut self.shares, &others.shares);
         self.actions = self.actions.saturating_add(others.actions);
@@ -53,7 +53,7 @@ impl Counts {
     }
 }
 
-/// Returns how many there are of what never gets fewer: as many as those had that are gone, and as many as are there.
+/// Returns a total that never decreases: the sum of a base, for journals that left, and the current number.
 pub fn grown(base: u64, current: u64) -> u64
     ensures keeps { base ≤ result }
     ensures has { current ≤ result }
@@ -62,8 +62,8 @@ pub fn grown(base: u64, current: u64) -> u64
     base.saturating_add(current)
 }
 
-/// The number of actions and of members that there ever were, and of actions that ended as failed, of some journals.
-/// They never get fewer.
+/// Total numbers of actions and members that there ever were, and of actions that ended as failed, of some journals.
+/// They never decrease.
 #[derive(Clone, Copy)]
 pub struct Totals {
     pub actions: u64,
@@ -74,7 +74,7 @@ pub struct Totals {
 impl Totals {
     ghost use Rattle.std.specs.Prelude.{◌≤◌};
 
-    /// Returns those of no journal.
+    /// Returns the totals of no journal.
     pub fn none() -> Totals {
         Totals {
             actions: 0,
@@ -83,7 +83,7 @@ impl Totals {
         }
     }
 
-    /// Adds those of a journal, or of several.
+    /// Adds the counts of a journal, or of several.
     pub fn add(&mut self, counts: &Counts)
         ensures actions { self.old.actions ≤ self.new.actions }
         ensures members { self.old.members ≤ self.new.members }
@@ -95,7 +95,7 @@ impl Totals {
     }
 }
 
-/// Returns whether what was asked is there.
+/// Returns whether the action or member of a query exists, by the answer to the query.
 fn is_there(asked: Result<Known, CounterFault>) -> Result<bool, Trouble> {
     match asked {
         Ok(_) => Ok(true),
@@ -104,7 +104,7 @@ fn is_there(asked: Result<Known, CounterFault>) -> Result<bool, Trouble> {
     }
 }
 
-/// Counts the members: they have the numbers from 1 on.
+/// Counts the members, whose numbers begin at 1.
 fn count_members<O: Overview>(overview: &mut O, instance: Instance) -> Result<u64, Trouble>
     ensures { O.orders overview.new ≡ O.orders overview.old }
 {
@@ -118,7 +118,7 @@ fn count_members<O: Overview>(overview: &mut O, instance: Instance) -> Result<u6
     Ok(found)
 }
 
-/// Counts the actions: they have the numbers from 1 on.
+/// Counts the actions, whose numbers begin at 1.
 fn count_actions<O: Overview>(overview: &mut O, instance: Instance) -> Result<u64, Trouble>
     ensures { O.orders overview.new ≡ O.orders overview.old }
 {
@@ -132,7 +132,7 @@ fn count_actions<O: Overview>(overview: &mut O, instance: Instance) -> Result<u6
     Ok(found)
 }
 
-/// The first action that hasn't ended, as a census knows where such are.
+/// Returns the first action that hasn't ended. The census says where to find it.
 fn oldest<O: Overview>(
     alloc: Global,
     overview: &mut O,
@@ -147,8 +147,8 @@ fn oldest<O: Overview>(
     Ok(first)
 }
 
-/// Counts the actions and the members, by queries of 256 rows at most each, the members that hold up ends at a moment,
-/// and those that are still to be told how their action ended. The census goes on from what it counted before.
+/// Counts the actions, the members, the members that hold up ends at a moment, and those that are still to be told how
+/// their action ended. Each query reads 256 rows at most. The census goes on from its earlier counts.
 pub fn count_all<O: Overview>(
     alloc: Global,
     overview: &mut O,

@@ -1,4 +1,4 @@
-//! Why operators aren't told what they ask.
+//! Reasons why operators get no answer.
 
 use lra_commands::{CounterFault, Refusal};
 use std::alloc::{AllocError, AllocFailed};

@@ -1,4 +1,4 @@
-//! Gathers what is told of actions, one query after another.
+//! Gathers the facts of actions for replies, one query after another.
 
 ghost use Rattle.std.specs.Prelude.{◌≡◌};
 
@@ -10,7 +10,7 @@ use lra_ids::Instance;
 use lra_model::{ActionStatus, MemberStatus};
 use std::alloc::Global;
 
-/// The most rows of one action that are shown.
+/// Largest number of rows of one action that are shown.
 pub const MOST_SHOWN: usize = 1_000;
 
 /// An action of a list.
@@ -26,13 +26,13 @@ pub struct ActionRow {
 pub struct MemberRow {
     pub member: u64,
     pub status: MemberStatus,
-    /// The ask of it that is outstanding.
+    /// Ask to the member that is outstanding.
     pub ask: Option<u64>,
-    /// The ask that it is to get next.
+    /// Ask that the member is to get next.
     pub want: Option<Want>,
 }
 
-/// Actions of a list, and the action to go on from, where there may be more.
+/// Actions of a list, and the action to go on from, if there may be more.
 #[derive(Drop)]
 pub struct Listed {
     pub rows: Vec<ActionRow>,
@@ -44,16 +44,15 @@ pub struct Listed {
 pub struct Waiting {
     pub row: ActionRow,
     pub awaited: Option<Awaited>,
-    /// The ask that the member is to get next that it waits for, and the number of milliseconds that are left until
-    /// then.
+    /// Ask that the awaited member is to get next, and the number of milliseconds that are left until then.
     pub want: Option<Want>,
     pub left: u64,
-    /// For how many milliseconds at least it is there, where that is known.
+    /// Least number of milliseconds for which the action has been there, if that is known.
     pub age: Option<u64>,
 }
 
 impl Waiting {
-    /// Returns an action of which nothing more is known than what it waits for.
+    /// Returns an action of which only is known what it waits for.
     pub fn new(row: ActionRow, awaited: Option<Awaited>) -> Waiting {
         Waiting {
             row,
@@ -72,11 +71,11 @@ pub struct Shown {
     pub members: Vec<MemberRow>,
     pub nested: Vec<ActionRow>,
     pub awaited: Option<Awaited>,
-    /// There may be more members or nested actions than are shown.
+    /// Flag, set if there may be more members or nested actions than are shown.
     pub is_cut: bool,
 }
 
-/// The row that holds an action's end, and its place among the action's rows.
+/// Row that holds up an action's end, and its place among the action's rows.
 #[derive(Clone, Copy)]
 struct Held {
     place: u64,
@@ -90,7 +89,7 @@ pub(crate) struct Placed {
     pub row: Row,
 }
 
-/// The next row of a listing, from a place on.
+/// Returns the next row of a listing, from a place on.
 fn next_row<O: Overview>(
     overview: &mut O,
     instance: Instance,
@@ -111,7 +110,7 @@ fn next_row<O: Overview>(
     Ok(None)
 }
 
-/// The action at a place of the list of all.
+/// Returns the number of the action at a place of the list of all actions.
 pub(crate) fn action_at(place: Option<u64>) -> Option<u64> {
     match place {
         Some(place) => Some(place.saturating_add(1)),
@@ -119,7 +118,7 @@ pub(crate) fn action_at(place: Option<u64>) -> Option<u64> {
     }
 }
 
-/// The action of a row.
+/// Returns the action of a row, if it is a row of an action.
 pub(crate) fn action_in(row: Row) -> Option<ActionRow> {
     match row {
         Row::Action {
@@ -135,7 +134,7 @@ pub(crate) fn action_in(row: Row) -> Option<ActionRow> {
     }
 }
 
-/// The member of a row.
+/// Returns the member of a row, if it is a row of a member.
 fn member_in(row: Row) -> Option<MemberRow> {
     match row {
         Row::Member {
@@ -153,7 +152,7 @@ fn member_in(row: Row) -> Option<MemberRow> {
     }
 }
 
-/// Adds so many actions of a listing, from a place on. Tells the place to go on from, where there may be more.
+/// Adds so many actions of a listing, from a place on. Returns the place to go on from, if there may be more.
 fn add_actions<O: Overview>(
     overview: &mut O,
     instance: Instance,
@@ -177,7 +176,7 @@ fn add_actions<O: Overview>(
     Ok(Some(from))
 }
 
-/// Adds so many members of an action. Tells whether there may be more.
+/// Adds so many members of an action. Returns whether there may be more.
 fn add_members<O: Overview>(
     overview: &mut O,
     instance: Instance,
@@ -201,8 +200,8 @@ fn add_members<O: Overview>(
     Ok(true)
 }
 
-/// So many actions, or those alone that have a status, those that were started first before the others, from a place
-/// on.
+/// Lists so many actions from a place on, in the order in which they were started. If a status is given, lists only
+/// actions that have it.
 pub fn list_actions<O: Overview>(
     alloc: Global,
     overview: &mut O,
@@ -224,7 +223,7 @@ pub fn list_actions<O: Overview>(
     }
 }
 
-/// Returns the first row that holds an action's end, and its place.
+/// Returns the first row that holds up an action's end, and its place.
 fn held_by<O: Overview>(
     overview: &mut O,
     instance: Instance,
@@ -264,7 +263,7 @@ pub fn waits_for<O: Overview>(
     }
 }
 
-/// Returns what a member at a place of an action's members is to be asked next.
+/// Returns what the member that holds up an action's end is to be asked next. Returns nothing if it is being asked.
 fn want_at<O: Overview>(
     overview: &mut O,
     instance: Instance,
@@ -291,7 +290,7 @@ fn want_at<O: Overview>(
     }
 }
 
-/// Returns an action with what it waits for, and when that is asked next, at a moment.
+/// Returns an action with what it waits for, and how long it is at a moment until that is asked next.
 fn waiting_of<O: Overview>(
     overview: &mut O,
     instance: Instance,
@@ -327,7 +326,7 @@ fn add_waiting<O: Overview>(
     Ok(())
 }
 
-/// Returns what each of some actions waits for, and when that is asked next, at a moment.
+/// Returns what each of some actions waits for, and how long it is at a moment until that is asked next.
 pub fn all_waiting<O: Overview>(
     alloc: Global,
     overview: &mut O,
@@ -344,7 +343,7 @@ pub fn all_waiting<O: Overview>(
     }
 }
 
-/// The row of an action.
+/// Returns the row of an action.
 fn row_of<O: Overview>(
     overview: &mut O,
     instance: Instance,
@@ -360,7 +359,8 @@ fn row_of<O: Overview>(
     }
 }
 
-/// Adds what is shown of an action to lists that are empty.
+/// Adds the members and the nested actions that are shown of an action to lists that are empty. Returns whether there
+/// may be more.
 fn fill<O: Overview>(
     overview: &mut O,
     instance: Instance,
@@ -376,7 +376,7 @@ fn fill<O: Overview>(
     Ok(cut || next.is_some())
 }
 
-/// An action with its members, its nested actions and what it waits for.
+/// Returns an action with its members, its nested actions and what it waits for.
 pub fn show_action<O: Overview>(
     alloc: Global,
     overview: &mut O,

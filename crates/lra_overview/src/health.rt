@@ -8,34 +8,35 @@ use crate::overview::Facts;
 use lra_ids::Instance;
 use lra_model::Memory;
 
-/// The question that is asked of a service's health.
+/// Question about a service's health.
 #[derive(Clone, Copy, Debug, PartialEq, Eq)]
 pub enum Probe {
-    /// All of it.
+    /// The question for all checks.
     Whole,
-    /// The question whether it should be started anew.
+    /// The question whether the service should be started anew.
     Live,
-    /// The question whether it can be sent requests.
+    /// The question whether clients can send requests to the service.
     Ready,
-    /// The question whether it has begun.
+    /// The question whether the service has started.
     Started,
 }
 
-/// The number of actions and of members, where the coordinator told it.
+/// Numbers of actions and of members that the coordinator reported.
 #[derive(Clone, Copy)]
 pub struct Answered {
     pub actions: u64,
     pub members: u64,
 }
 
-/// Returns whether the journal takes and keeps what is written.
+/// Returns whether the journal accepts writes and makes them durable.
 fn keeps(facts: &Facts) -> bool
     ensures { result ≡ spec.keeps facts.now }
 {
     !facts.has_failed
 }
 
-/// Returns whether the journal has room, and so the coordinator for what there may be too much of.
+/// Returns whether there is room for bytes, entries, actions and members. If the coordinator reported no numbers,
+/// actions and members count as having room.
 fn has_room(facts: &Facts, answered: &Option<Answered>) -> bool
     ensures { result ≡ spec.has_room facts.now answered.now }
 {
@@ -48,7 +49,7 @@ fn has_room(facts: &Facts, answered: &Option<Answered>) -> bool
     bytes && entries && counted
 }
 
-/// Returns whether actions may be begun.
+/// Returns whether new actions may be started.
 fn takes_starts(facts: &Facts) -> bool
     ensures { result ≡ spec.takes_starts facts.now }
 {
@@ -76,28 +77,28 @@ fn has_threads(facts: &Facts) -> bool
     facts.lost_workers == 0 && facts.lost_callback_workers == 0
 }
 
-/// Returns whether nothing is wrong that a new start would mend.
+/// Returns whether nothing is wrong that a restart would mend.
 fn is_live(facts: &Facts, answered: &Option<Answered>) -> bool
     ensures { result ≡ spec.is_live facts.now answered.now }
 {
     keeps(facts) && answered.is_some() && has_threads(facts)
 }
 
-/// Returns whether anything more is taken.
+/// Returns whether the service accepts anything more.
 fn takes_more(facts: &Facts, answered: &Option<Answered>) -> bool
     ensures { result ≡ spec.takes_more facts.now answered.now }
 {
     has_room(facts, answered) && takes_starts(facts)
 }
 
-/// Returns whether nothing is late: no worker behind the set of journals, and no sync.
+/// Returns whether nothing is late: no worker lags behind the set of journals, and no sync takes too long.
 fn is_timely(facts: &Facts) -> bool
     ensures { result ≡ spec.is_timely facts.now }
 {
     follows(facts) && syncs_in_time(facts)
 }
 
-/// Returns whether all checks of a probe came out well.
+/// Returns whether all checks of a probe succeed.
 pub fn is_up(probe: Probe, facts: &Facts, answered: &Option<Answered>) -> bool
     ensures { result ≡ spec.is_up probe facts.now answered.now }
 {
@@ -110,14 +111,14 @@ pub fn is_up(probe: Probe, facts: &Facts, answered: &Option<Answered>) -> bool
     }
 }
 
-/// The word for what came of a check.
+/// Returns the word for the outcome of a check.
 fn word(up: bool) -> &'static str
     ensures { result.now ≡ spec.word up }
 {
     if up { "UP" } else { "DOWN" }
 }
 
-/// Adds a check's beginning: its name and what came of it.
+/// Adds a check's beginning: its name and its outcome.
 fn begin_check(page: &mut Vec<u8>, name: &'static str, up: bool) -> Result<(), Memory>
     ensures { OnOk result (page.new.items ≡ page.old.items ++ spec.check name.now up) }
 {
@@ -138,7 +139,7 @@ fn put_data(page: &mut Vec<u8>, name: &'static str, number: u64) -> Result<(), M
     put_number(page, number)
 }
 
-/// Adds whether the journal takes and keeps what is written.
+/// Adds the check of whether the journal accepts writes and makes them durable.
 fn put_journal(page: &mut Vec<u8>, facts: &Facts) -> Result<(), Memory>
     ensures { OnOk result (page.new.items ≡ page.old.items ++ spec.journal facts.now) }
 {
@@ -150,7 +151,7 @@ fn put_journal(page: &mut Vec<u8>, facts: &Facts) -> Result<(), Memory>
     put(page, "}}")
 }
 
-/// Adds that the coordinator answers, and what it told.
+/// Adds the check of a coordinator that answers, with the numbers that it reported.
 fn put_answer(page: &mut Vec<u8>, told: Answered) -> Result<(), Memory>
     ensures { OnOk result (page.new.items ≡ page.old.items ++ spec.answer told) }
 {
@@ -162,7 +163,7 @@ fn put_answer(page: &mut Vec<u8>, told: Answered) -> Result<(), Memory>
     put(page, "}}")
 }
 
-/// Adds that the coordinator doesn't answer.
+/// Adds the check of a coordinator that doesn't answer.
 fn put_silence(page: &mut Vec<u8>) -> Result<(), Memory>
     ensures { OnOk result (page.new.items ≡ page.old.items ++ spec.silence) }
 {
@@ -170,7 +171,7 @@ fn put_silence(page: &mut Vec<u8>) -> Result<(), Memory>
     put(page, "}")
 }
 
-/// Adds whether the coordinator answers.
+/// Adds the check of whether the coordinator answers.
 fn put_lock(page: &mut Vec<u8>, answered: &Option<Answered>) -> Result<(), Memory>
     ensures { OnOk result (page.new.items ≡ page.old.items ++ spec.lock answered.now) }
 {
@@ -180,7 +181,7 @@ fn put_lock(page: &mut Vec<u8>, answered: &Option<Answered>) -> Result<(), Memor
     }
 }
 
-/// Adds the room for actions and members, where it is known how many there are.
+/// Adds the room for actions and members, by the numbers that there are.
 fn put_room_left(page: &mut Vec<u8>, facts: &Facts, told: Answered) -> Result<(), Memory>
     ensures { OnOk result (page.new.items ≡ page.old.items ++ spec.room_left facts.now told) }
 {
@@ -192,7 +193,7 @@ fn put_room_left(page: &mut Vec<u8>, facts: &Facts, told: Answered) -> Result<()
     put_data(page, "members", members)
 }
 
-/// Adds the same, or nothing.
+/// Adds the room for actions and members, if their numbers are known.
 fn put_room_counted(
     page: &mut Vec<u8>,
     facts: &Facts,
@@ -206,7 +207,7 @@ fn put_room_counted(
     }
 }
 
-/// Adds whether there is room.
+/// Adds the check of whether there is room, and how much.
 fn put_room(page: &mut Vec<u8>, facts: &Facts, answered: &Option<Answered>) -> Result<(), Memory>
     ensures { OnOk result (page.new.items ≡ page.old.items ++ spec.room facts.now answered.now) }
 {
@@ -221,7 +222,7 @@ fn put_room(page: &mut Vec<u8>, facts: &Facts, answered: &Option<Answered>) -> R
     put(page, "}}")
 }
 
-/// Adds whether actions may be begun.
+/// Adds the check of whether new actions may be started.
 fn put_starts(page: &mut Vec<u8>, facts: &Facts) -> Result<(), Memory>
     ensures { OnOk result (page.new.items ≡ page.old.items ++ spec.starts facts.now) }
 {
@@ -229,7 +230,7 @@ fn put_starts(page: &mut Vec<u8>, facts: &Facts) -> Result<(), Memory>
     put(page, "}")
 }
 
-/// Adds the checks of whether anything more is taken.
+/// Adds the checks of whether the service accepts anything more.
 fn put_openings(
     page: &mut Vec<u8>,
     facts: &Facts,
@@ -242,7 +243,7 @@ fn put_openings(
     put_starts(page, facts)
 }
 
-/// Adds the name of a journal, without its end.
+/// Adds the name of a journal's file, without its extension.
 #[tactic(auto, using(crate::proofs::Stems::written))]
 fn put_stem(page: &mut Vec<u8>, journal: Instance) -> Result<(), Memory>
     ensures { OnOk result (page.new.items ≡ page.old.items ++ spec.stem journal) }
@@ -252,7 +253,7 @@ fn put_stem(page: &mut Vec<u8>, journal: Instance) -> Result<(), Memory>
     page.extend_from_slice(stem.as_str().as_bytes())
 }
 
-/// Adds that a journal's callbacks stand still.
+/// Adds the journal whose callbacks stand still.
 fn put_journal_standing(page: &mut Vec<u8>, journal: Instance) -> Result<(), Memory>
     ensures { OnOk result (page.new.items ≡ page.old.items ++ spec.journal_standing journal) }
 {
@@ -261,7 +262,7 @@ fn put_journal_standing(page: &mut Vec<u8>, journal: Instance) -> Result<(), Mem
     put(page, "\"")
 }
 
-/// Adds whose callbacks stand still, if any do.
+/// Adds the journal whose callbacks stand still, if any do.
 fn put_standing(page: &mut Vec<u8>, facts: &Facts) -> Result<(), Memory>
     ensures { OnOk result (page.new.items ≡ page.old.items ++ spec.standing facts.now) }
 {
@@ -280,7 +281,7 @@ fn put_lost(page: &mut Vec<u8>, facts: &Facts) -> Result<(), Memory>
     put_data(page, "ended_callback_workers", facts.lost_callback_workers)
 }
 
-/// Adds whether all threads go on, and whose callbacks stand still where they don't.
+/// Adds the check of whether all threads run, and the journal whose callbacks stand still if they don't.
 fn put_threads(page: &mut Vec<u8>, facts: &Facts) -> Result<(), Memory>
     ensures { OnOk result (page.new.items ≡ page.old.items ++ spec.threads facts.now) }
 {
@@ -291,7 +292,7 @@ fn put_threads(page: &mut Vec<u8>, facts: &Facts) -> Result<(), Memory>
     put(page, "}}")
 }
 
-/// Adds how long the sync under way has taken, and how long it may.
+/// Adds how long the sync under way has taken, and how long it may take.
 fn put_ages(page: &mut Vec<u8>, facts: &Facts) -> Result<(), Memory>
     ensures { OnOk result (page.new.items ≡ page.old.items ++ spec.ages facts.now) }
 {
@@ -300,7 +301,7 @@ fn put_ages(page: &mut Vec<u8>, facts: &Facts) -> Result<(), Memory>
     put_data(page, "limit_ms", facts.sync_limit)
 }
 
-/// Adds whether a sync takes too long.
+/// Adds the check of whether a sync takes too long.
 fn put_sync(page: &mut Vec<u8>, facts: &Facts) -> Result<(), Memory>
     ensures { OnOk result (page.new.items ≡ page.old.items ++ spec.sync facts.now) }
 {
@@ -310,7 +311,7 @@ fn put_sync(page: &mut Vec<u8>, facts: &Facts) -> Result<(), Memory>
     put(page, "}}")
 }
 
-/// Returns the end of the check of the set of journals, with the reason why a worker is behind the set, where one is.
+/// Returns the end of the check of the set of journals. If a worker lags behind the set, it has the reason.
 fn set_data(facts: &Facts) -> &'static str
     ensures { result.now ≡ spec.set_data facts.now }
 {
@@ -321,7 +322,7 @@ fn set_data(facts: &Facts) -> &'static str
     }
 }
 
-/// Adds that a worker is behind the set of journals, or that none is.
+/// Adds the check of whether a worker lags behind the set of journals.
 fn put_set(page: &mut Vec<u8>, facts: &Facts) -> Result<(), Memory>
     ensures { OnOk result (page.new.items ≡ page.old.items ++ spec.set facts.now) }
 {
@@ -338,7 +339,7 @@ fn put_delays(page: &mut Vec<u8>, facts: &Facts) -> Result<(), Memory>
     put_sync(page, facts)
 }
 
-/// Adds the check of whether it has begun: that is so where anything is told.
+/// Adds the check of whether the service has started. That is so whenever it replies.
 fn put_started(page: &mut Vec<u8>) -> Result<(), Memory>
     ensures { OnOk result (page.new.items ≡ page.old.items ++ spec.started) }
 {
@@ -346,7 +347,7 @@ fn put_started(page: &mut Vec<u8>) -> Result<(), Memory>
     put(page, "}")
 }
 
-/// Adds the checks of whether it should be started anew.
+/// Adds the checks of whether the service should be started anew.
 fn put_live(page: &mut Vec<u8>, facts: &Facts, answered: &Option<Answered>) -> Result<(), Memory>
     ensures { OnOk result (page.new.items ≡ page.old.items ++ spec.live facts.now answered.now) }
 {
@@ -357,7 +358,7 @@ fn put_live(page: &mut Vec<u8>, facts: &Facts, answered: &Option<Answered>) -> R
     put_threads(page, facts)
 }
 
-/// Adds the checks of whether it can be sent requests.
+/// Adds the checks of whether clients can send requests to the service.
 fn put_ready(page: &mut Vec<u8>, facts: &Facts, answered: &Option<Answered>) -> Result<(), Memory>
     ensures { OnOk result (page.new.items ≡ page.old.items ++ spec.ready facts.now answered.now) }
 {

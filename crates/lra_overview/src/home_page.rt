@@ -41,7 +41,7 @@ fn put_shares(page: &mut Vec<u8>, names: &Names<'_>, shares: &[Share]) -> Result
     Ok(())
 }
 
-/// Adds for how long an action is there at least, where that is known.
+/// Adds for how long an action has been there at least, if that is known.
 fn put_age(page: &mut Vec<u8>, names: &Names<'_>, age: Option<u64>) -> Result<(), Memory>
     ensures { OnOk result (page.new.items ≡ page.old.items ++ pages.age age) }
 {
@@ -51,7 +51,7 @@ fn put_age(page: &mut Vec<u8>, names: &Names<'_>, age: Option<u64>) -> Result<()
     }
 }
 
-/// Returns the ask of the member that is waited for, where one is outstanding.
+/// Returns the outstanding ask to the member that an action waits for, if there is one.
 fn ask_in(awaited: &Option<Awaited>) -> Option<u64>
     ensures { result ≡ pages.ask_in awaited.now }
 {
@@ -61,7 +61,7 @@ fn ask_in(awaited: &Option<Awaited>) -> Option<u64>
     }
 }
 
-/// Adds what an action waits for, where it hasn't ended.
+/// Adds what an action waits for, if it hasn't ended.
 fn put_waits(page: &mut Vec<u8>, names: &Names<'_>, waiting: &Waiting) -> Result<(), Memory>
     ensures { OnOk result (page.new.items ≡ page.old.items ++ pages.waits names.now.instance waiting.now) }
 {
@@ -73,7 +73,7 @@ fn put_waits(page: &mut Vec<u8>, names: &Names<'_>, waiting: &Waiting) -> Result
     }
 }
 
-/// Adds what an action waits for, and when that is asked next of which this ask is outstanding, if one is.
+/// Adds what an action waits for, and when that is asked next. `ask` is the outstanding ask to it, if there is one.
 fn put_asked_cells(
     page: &mut Vec<u8>,
     names: &Names<'_>,
@@ -124,7 +124,7 @@ fn put_waiting(
     names.put_all(page, &[Piece::Own("</td></tr>\n")])
 }
 
-/// Adds actions that haven't ended.
+/// Adds the lines of actions.
 fn put_rows(
     page: &mut Vec<u8>,
     names: &Names<'_>,
@@ -140,7 +140,7 @@ fn put_rows(
     Ok(())
 }
 
-/// Adds a table of actions, of which there are some.
+/// Adds a table of actions, for a list that isn't empty.
 fn put_full_table(
     page: &mut Vec<u8>,
     names: &Names<'_>,
@@ -161,7 +161,7 @@ fn put_full_table(
     names.put_all(page, &[Piece::Own("</tbody></table>\n")])
 }
 
-/// Adds that no action is listed.
+/// Adds the sentence that no action is listed.
 fn put_no_rows(
     page: &mut Vec<u8>,
     names: &Names<'_>,
@@ -175,7 +175,7 @@ fn put_no_rows(
     }
 }
 
-/// Adds a table of actions, or that there are none.
+/// Adds a table of actions, or the sentence that there are none.
 fn put_table(
     page: &mut Vec<u8>,
     names: &Names<'_>,
@@ -193,7 +193,7 @@ fn put_table(
     }
 }
 
-/// Adds a link to the actions that follow, where there may be more.
+/// Adds a link to the actions that follow, if there may be more.
 fn put_next(
     page: &mut Vec<u8>,
     names: &Names<'_>,
@@ -241,7 +241,7 @@ fn put_overdue(page: &mut Vec<u8>, names: &Names<'_>, overdue: &Overdue) -> Resu
     names.put_all(page, &pieces)
 }
 
-/// Adds which actions are listed.
+/// Adds the heading that says which actions are listed.
 fn put_title(
     page: &mut Vec<u8>,
     names: &Names<'_>,
@@ -267,20 +267,20 @@ fn put_title(
     }
 }
 
-/// The content of the first page.
+/// Content of the first page.
 #[derive(Clone, Copy)]
 pub struct Home<'a> {
-    /// The number of actions that have each status, and of members that hold up ends.
+    /// Numbers of actions that have each status, and of members that hold up ends.
     pub shares: &'a [Share],
     pub overdue: Overdue,
-    /// The status of which the listed actions are, or else they haven't ended.
+    /// Status of the listed actions, or none if they are those that haven't ended.
     pub state: Option<ActionStatus>,
-    /// The actions that are listed, and the action to go on from, if there may be more.
+    /// Listed actions, and the action to go on from, if there may be more.
     pub rows: &'a [Waiting],
     pub next: Option<u64>,
 }
 
-/// Adds what the first page counts, and which actions it lists.
+/// Adds the counts of the first page, and the heading of its list.
 fn put_counts(page: &mut Vec<u8>, names: &Names<'_>, home: &Home<'_>) -> Result<(), Memory>
     ensures { OnOk result (page.new.items ≡ page.old.items ++ pages.counts home.now) }
 {

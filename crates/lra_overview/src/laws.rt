@@ -10,9 +10,9 @@ ghost use Rattle.lra_overview.specs.Marks.{
   PlainRefers,
 };
 
-/// Which marks a page has, by which markup and quoted values are told, depends on no text from elsewhere: each page has
-/// the same ones, in the same order, whatever the base of the coordinator is, the token of the forms, the address and
-/// the words of a member's last callback, and the text that is told.
+/// States that the marks of a page, which delimit its markup and quoted values, depend on no text from elsewhere. Each
+/// page has the same marks in the same order, whatever the coordinator's base, the forms' token, the address and the
+/// words of a member's last callback, and the reported text are.
 pub fn pages_keep_marks()
     ensures home { HomeKeepsMarks }
     ensures action { ActionKeepsMarks }
@@ -20,7 +20,8 @@ pub fn pages_keep_marks()
     ensures plain { PlainKeepsMarks }
 {}
 
-/// Each `&` of a page begins one of the five references, whatever is told in it: so none stands bare.
+/// States that each `&` of a page begins one of the five references, whatever texts the page has. So no `&` stands
+/// bare.
 pub fn pages_refer()
     ensures home { HomeRefers }
     ensures action { ActionRefers }

@@ -1,4 +1,4 @@
-//! Adds texts to a page.
+//! Writers that add texts to a page.
 
 ghost use Rattle.std.specs.Prelude.{◌≡◌, [], ◌∷◌, ◌++◌, ◌-◌, ◌≤◌, OnOk, drop, length};
 ghost use Rattle.std.specs.Fmt.{decimal};
@@ -25,8 +25,8 @@ pub fn put_number(page: &mut Vec<u8>, number: u64) -> Result<(), Memory>
     page.extend_from_slice(buffer.format(number).as_bytes())
 }
 
-/// Returns how many seconds, minutes, hours or days so many milliseconds are: in the largest unit of which there are
-/// two.
+/// Returns how many seconds, minutes, hours or days so many milliseconds are. Counts in the largest unit of which there
+/// are two at least, or else in seconds.
 fn span_count(ms: u64) -> u64
     ensures { result ≡ spec.span_count ms }
 {
@@ -41,7 +41,7 @@ fn span_count(ms: u64) -> u64
     }
 }
 
-/// Returns the unit in which so many milliseconds are told.
+/// Returns the unit in which so many milliseconds are written.
 fn span_unit(ms: u64) -> &'static str
     ensures { result.now ≡ spec.span_unit ms }
 {
@@ -88,14 +88,14 @@ pub(crate) fn put_json(alloc: Global, page: &mut Vec<u8>, text: &str) -> Result<
     page.extend_from_slice(spelled.as_bytes())
 }
 
-/// Returns whether an identifier can have a number.
+/// Returns whether a number can have an identifier.
 pub(crate) fn has_id(number: u64) -> bool
     ensures { result ≡ spec.has_id number }
 {
     0 < number && number < 1 << 62
 }
 
-/// Returns what stands from a place on.
+/// Returns the rest of a text from a place on.
 pub(crate) fn behind(text: &[u8], start: usize) -> &[u8]
     requires { start ≤ length text.now }
     ensures { result.now ≡ drop start text.now }

@@ -1,5 +1,5 @@
-//! The operators' view of a service, over whatever tells of its histories: the texts of its health, its metrics, its
-//! lists and its pages.
+//! The operators' view of a service: the texts of its health, its metrics, its lists and its pages, from a source that
+//! answers queries of its histories.
 #![tactic(auto)]
 
 mod action_page;

@@ -6,7 +6,7 @@ use crate::overdue::Overdue;
 use crate::overview::Facts;
 use lra_model::Memory;
 
-/// The kind of number that a measure is.
+/// Kind of a measure's number.
 #[derive(Clone, Copy, Debug, PartialEq, Eq)]
 pub enum Kind {
     Gauge,
@@ -14,10 +14,10 @@ pub enum Kind {
     Histogram,
 }
 
-/// The number of parts that a whole is told in.
+/// Number of parts of a whole, in which ratios are written.
 const PARTS: u64 = 1_000_000;
 
-/// Adds what a measure is, before its lines.
+/// Adds the description and the kind of a measure. These stand before its lines.
 pub fn describe(page: &mut Vec<u8>, name: &str, kind: Kind, help: &str) -> Result<(), Memory> {
     put(page, "# HELP ")?;
     put(page, name)?;
@@ -47,7 +47,7 @@ pub fn whole(
     put(page, "\n")
 }
 
-/// Adds a number below ten, with as many digits behind its point as are wanted.
+/// Adds the digits after the point of a number of so many parts of one, six at most.
 fn put_digits(page: &mut Vec<u8>, number: u64, whole: u64) -> Result<(), Memory> {
     let mut scale = whole / 10;
     for _digit in 0..6 {
@@ -60,7 +60,7 @@ fn put_digits(page: &mut Vec<u8>, number: u64, whole: u64) -> Result<(), Memory>
     Ok(())
 }
 
-/// Adds a number of so many parts of one, which is a power of ten up to a million.
+/// Adds a number of so many parts of one. The number of parts is a power of ten, a million at most.
 pub fn put_parts(page: &mut Vec<u8>, number: u64, parts: u64) -> Result<(), Memory> {
     put_number(page, number.checked_div(parts).unwrap_or(0))?;
     put(page, ".")?;
@@ -83,7 +83,7 @@ fn parts(
     put(page, "\n")
 }
 
-/// Adds a line of a measure that has a label. The label's value is a word of this program.
+/// Begins a line of a measure that has a label. The label's value is a word of this program.
 fn labelled(page: &mut Vec<u8>, name: &str, label: &str, value: &str) -> Result<(), Memory> {
     put(page, name)?;
     put(page, "{")?;
@@ -93,7 +93,7 @@ fn labelled(page: &mut Vec<u8>, name: &str, label: &str, value: &str) -> Result<
     put(page, "\"} ")
 }
 
-/// Adds how many actions have each status, and how many there ever were.
+/// Adds how many actions have each status, and the totals of actions and members.
 fn put_counts(page: &mut Vec<u8>, counts: &Counts, totals: &Totals) -> Result<(), Memory> {
     describe(page, "lra_actions", Kind::Gauge, "Actions by their status.")?;
     for share in &counts.shares {
@@ -166,14 +166,14 @@ fn left(count: u64, most: u64) -> u64 {
     room.saturating_mul(PARTS).checked_div(most).unwrap_or(0)
 }
 
-/// Adds which part of a limit is left.
+/// Adds the part of a limit that is left.
 fn put_left(page: &mut Vec<u8>, limit: &str, count: u64, most: u64) -> Result<(), Memory> {
     labelled(page, "lra_journal_room_ratio", "limit", limit)?;
     put_parts(page, left(count, most), PARTS)?;
     put(page, "\n")
 }
 
-/// Adds which part of each limit of the newest journal is left.
+/// Adds the part of each limit of the newest journal that is left.
 fn put_room(page: &mut Vec<u8>, facts: &Facts, newest: &Counts) -> Result<(), Memory> {
     describe(
         page,
@@ -187,7 +187,7 @@ fn put_room(page: &mut Vec<u8>, facts: &Facts, newest: &Counts) -> Result<(), Me
     put_left(page, "members", newest.members, facts.most_members)
 }
 
-/// Adds what is measured of the journal.
+/// Adds the measures of the journals.
 fn put_journal(page: &mut Vec<u8>, facts: &Facts) -> Result<(), Memory> {
     whole(
         page,
@@ -219,7 +219,8 @@ fn put_journal(page: &mut Vec<u8>, facts: &Facts) -> Result<(), Memory> {
     )
 }
 
-/// Adds how long the sync that is under way has taken, and how many threads have ended.
+/// Adds how long the sync under way has taken, how many threads have ended, and whether a worker lags behind the set of
+/// journals.
 fn put_sync(page: &mut Vec<u8>, facts: &Facts) -> Result<(), Memory> {
     parts(
         page,
@@ -251,7 +252,7 @@ fn put_sync(page: &mut Vec<u8>, facts: &Facts) -> Result<(), Memory> {
     )
 }
 
-/// Adds what is measured of connections and callbacks.
+/// Adds the measures of connections and callbacks.
 fn put_traffic(page: &mut Vec<u8>, facts: &Facts) -> Result<(), Memory> {
     whole(
         page,
@@ -269,7 +270,7 @@ fn put_traffic(page: &mut Vec<u8>, facts: &Facts) -> Result<(), Memory> {
     )
 }
 
-/// Adds what is measured of the process's memory, where the system tells it.
+/// Adds the measures of the process's memory, if the system reports them.
 fn put_memory(page: &mut Vec<u8>, facts: &Facts) -> Result<(), Memory> {
     if let Some(bytes) = facts.resident_bytes {
         whole(
@@ -292,7 +293,7 @@ fn put_memory(page: &mut Vec<u8>, facts: &Facts) -> Result<(), Memory> {
     Ok(())
 }
 
-/// Adds what is measured of the process.
+/// Adds the measures of the process.
 fn put_process(page: &mut Vec<u8>, facts: &Facts) -> Result<(), Memory> {
     parts(
         page,
@@ -315,8 +316,9 @@ fn put_process(page: &mut Vec<u8>, facts: &Facts) -> Result<(), Memory> {
     put_memory(page, facts)
 }
 
-/// Adds what is measured of a service; of counts what was told last, of all journals and of the newest, and how long,
-/// in milliseconds, the oldest action that hasn't ended is known of.
+/// Adds the measures of a service, from its latest counts. `counts` are those of all journals that are served, `totals`
+/// those with the journals that left, and `newest` those of the newest journal. `oldest` is for how many milliseconds
+/// the oldest action that hasn't ended has been known of.
 pub fn put_metrics(
     page: &mut Vec<u8>,
     facts: &Facts,

@@ -1,4 +1,4 @@
-//! Whose identifiers a text has, and how its pieces are added.
+//! The identifiers in a text, and the writer of its pieces.
 
 ghost use Rattle.std.specs.Prelude.{◌≡◌};
 
@@ -8,10 +8,10 @@ use lra_ids::{Base, Instance};
 use lra_model::Memory;
 use std::alloc::Global;
 
-/// The number of bytes that stand between the base and the identifier in the URI of an action.
+/// Number of bytes between the base and the identifier in the URI of an action.
 const BELOW_BASE: usize = 16;
 
-/// Whose identifiers a text has.
+/// Journal and base of the identifiers in a text.
 #[derive(Clone, Copy)]
 pub struct Names<'a> {
     pub alloc: Global,
@@ -20,7 +20,7 @@ pub struct Names<'a> {
 }
 
 impl<'a> Names<'a> {
-    /// Those of a journal.
+    /// Returns the names of a journal.
     pub fn new(alloc: Global, instance: Instance, base: &'a Base) -> Names<'a>
         ensures instance { result.instance ≡ instance }
         ensures base { result.base.now ≡ base.now }

@@ -41,7 +41,7 @@ fn put_row(page: &mut Vec<u8>, names: &Names<'_>, row: &ActionRow) -> Result<(),
     names.put_all(page, &[Piece::Own("}")])
 }
 
-/// Adds what stands before a row.
+/// Adds the separator before a row.
 fn put_before(page: &mut Vec<u8>, names: &Names<'_>, is_first: bool) -> Result<(), Memory>
     ensures { OnOk result (page.new.items ≡ page.old.items ++ lists.before is_first) }
 {
@@ -65,7 +65,7 @@ fn put_rows(page: &mut Vec<u8>, names: &Names<'_>, rows: &[ActionRow]) -> Result
     Ok(())
 }
 
-/// Adds what a member is to be asked next.
+/// Adds what a member is to be asked next, or null.
 fn put_want(page: &mut Vec<u8>, names: &Names<'_>, want: Option<Want>) -> Result<(), Memory>
     ensures { OnOk result (page.new.items ≡ page.old.items ++ lists.want want) }
 {
@@ -96,7 +96,7 @@ fn put_number_if(page: &mut Vec<u8>, names: &Names<'_>, number: Option<u64>) -> 
     }
 }
 
-/// Adds the last callback of a member that hasn't brought it further, or null.
+/// Adds the last callback of a member that didn't bring it further, or null.
 fn put_last(page: &mut Vec<u8>, names: &Names<'_>, tried: &Option<Tried>) -> Result<(), Memory>
     ensures { OnOk result (page.new.items ≡ page.old.items ++ lists.last tried.now) }
 {
@@ -151,7 +151,7 @@ fn put_members(page: &mut Vec<u8>, names: &Names<'_>, members: &[Line]) -> Resul
     Ok(())
 }
 
-/// Adds what an action waits for.
+/// Adds what an action waits for, or null.
 fn put_awaited(
     page: &mut Vec<u8>,
     names: &Names<'_>,
@@ -196,7 +196,7 @@ pub fn put_actions(
     names.put_all(page, &[Piece::Own("}\n")])
 }
 
-/// Adds what is told of an action before its members.
+/// Adds the fields of an action that stand before its members.
 fn put_head(page: &mut Vec<u8>, names: &Names<'_>, waiting: &Waiting) -> Result<(), Memory>
     ensures { OnOk result (page.new.items ≡ page.old.items ++ lists.head names.now.instance waiting.now) }
 {
@@ -213,7 +213,7 @@ fn put_head(page: &mut Vec<u8>, names: &Names<'_>, waiting: &Waiting) -> Result<
     put_awaited(page, names, &waiting.awaited)
 }
 
-/// Adds whether there is more than is shown, and an object's end.
+/// Adds whether there may be more than is shown, and the object's end.
 fn put_cut(page: &mut Vec<u8>, names: &Names<'_>, is_cut: bool) -> Result<(), Memory>
     ensures { OnOk result (page.new.items ≡ page.old.items ++ lists.cut is_cut) }
 {

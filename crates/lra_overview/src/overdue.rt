@@ -12,39 +12,40 @@ use lra_ids::Instance;
 use lra_model::ActionStatus;
 use std::alloc::Global;
 
-/// The most queries that are asked for one count.
+/// Largest number of queries for one count.
 const MOST: u64 = 1_000;
 
-/// The number of times that a member is asked in vain before it counts as one that doesn't answer.
+/// Number of times that a member is asked in vain before it counts as one that doesn't answer.
 const IN_VAIN: u64 = 3;
 
-/// The number of members that hold up actions which are closing or cancelling. Those that are being asked aren't among
+/// Numbers of members that hold up actions which are closing or cancelling. Members that are being asked aren't among
 /// them.
 #[derive(Clone, Copy)]
 pub struct Overdue {
-    /// They were asked in vain three times or more, and are silent or answer what brings them no further.
+    /// Number of those that were asked in vain three times or more. They are silent, or their answers bring them no
+    /// further.
     pub silent: u64,
-    /// They weren't, and are to be asked by now.
+    /// Number of those that were asked in vain less often, and are to be asked by now.
     pub waiting: u64,
-    /// They answered last that they are at it.
+    /// Number of those that answered last that they are at it.
     pub at_it: u64,
 }
 
-/// The way in which a member that isn't being asked holds up an end.
+/// Way in which a member that isn't being asked holds up an end.
 #[derive(Clone, Copy, Debug, PartialEq, Eq)]
 pub enum Standing {
-    /// It answered last that it is at it.
+    /// The member answered last that it is at it.
     AtIt,
-    /// It was asked in vain three times or more.
+    /// The member was asked in vain three times or more.
     Silent,
-    /// It wasn't, and is to be asked by now.
+    /// The member was asked in vain less often, and is to be asked by now.
     Waiting,
-    /// It is asked later, and doesn't hold it up yet.
+    /// The member is to be asked later, and doesn't hold the end up yet.
     Timely,
 }
 
-/// Returns how a member holds up an end at a moment that was asked so often in vain, is to be asked from a moment on,
-/// and answered last that it is at it or didn't.
+/// Returns how a member holds up an end at a moment. `repeats` says how often it was asked in vain, `due` from which
+/// moment on it is to be asked, and `is_at_it` whether it answered last that it is at it.
 pub fn standing_of(repeats: u64, due: u64, moment: u64, is_at_it: bool) -> Standing
     ensures { result ≡ spec.standing_of repeats due moment is_at_it }
 {
@@ -60,7 +61,7 @@ pub fn standing_of(repeats: u64, due: u64, moment: u64, is_at_it: bool) -> Stand
 }
 
 impl Overdue {
-    /// None does.
+    /// Returns counts of 0.
     pub fn none() -> Overdue {
         Overdue {
             silent: 0,
@@ -69,14 +70,14 @@ impl Overdue {
         }
     }
 
-    /// Adds as many as another journal has.
+    /// Adds the counts of another journal.
     pub fn add(&mut self, others: &Overdue) {
         self.silent = self.silent.saturating_add(others.silent);
         self.waiting = self.waiting.saturating_add(others.waiting);
         self.at_it = self.at_it.saturating_add(others.at_it);
     }
 
-    /// Adds a member that holds up an end so.
+    /// Adds a member, by the way in which it holds up an end.
     fn add_member(&mut self, standing: Standing) {
         match standing {
             Standing::AtIt => self.at_it = self.at_it.saturating_add(1),
@@ -87,7 +88,7 @@ impl Overdue {
     }
 }
 
-/// A count that goes on: what was found, and how many queries may still be asked.
+/// Count under way: the members that were found, and the number of queries that are left.
 #[derive(Clone, Copy)]
 struct Tally {
     alloc: Global,
@@ -97,8 +98,8 @@ struct Tally {
 }
 
 impl Tally {
-    /// The row of a listing at a place or behind it, of those that one query looks at. Where no more may be asked there
-    /// is none.
+    /// Returns the first row of a listing at or after a place, among the rows that one query reads. Returns none if no
+    /// query is left.
     fn row<O: Overview>(
         &mut self,
         overview: &mut O,
@@ -115,8 +116,7 @@ impl Tally {
         Ok(overview.query(instance, Query::Row { of, place })?)
     }
 
-    /// Returns how a member holds up an end that is to be asked so. One that was never asked in vain has answered
-    /// nothing.
+    /// Returns how a member with a want holds up an end. A member that was never asked in vain has answered nothing.
     fn standing<O: Overview>(
         &self,
         overview: &mut O,
@@ -193,8 +193,8 @@ impl Tally {
     }
 }
 
-/// Counts the members that hold up ends at a moment, of those actions that a census found to be closing or cancelling,
-/// those that were started first before the others: a thousand queries are asked at most.
+/// Counts the members that hold up ends at a moment, of the actions that a census found to be closing or cancelling. It
+/// goes by stretches, the oldest first, and asks a thousand queries at most.
 pub(crate) fn count_overdue<O: Overview>(
     alloc: Global,
     overview: &mut O,

@@ -1,5 +1,5 @@
-//! Parts that the pages for a browser share, and a page of one sentence. A page has no script, and nothing of another
-//! place. All that is known from elsewhere is added by `Piece::Told`, and so escaped.
+//! Parts that the pages for a browser share, and a page of one sentence. A page has no script, and loads nothing from
+//! another site. `Piece::Told` adds every text from elsewhere, and so escapes it.
 
 ghost use Rattle.std.specs.Prelude.{◌≡◌, ◌++◌, OnOk};
 ghost use Rattle.lra_overview.specs.Pages as pages;
@@ -10,24 +10,24 @@ use crate::pieces::Piece;
 use lra_commands::{Awaited, Want};
 use lra_model::{ActionStatus, Memory};
 
-/// The terms on which forms are taken.
+/// Secrets that the port requires of a form.
 #[derive(Clone, Copy)]
 pub struct Forms<'a> {
-    /// The word by which it is known that a form is one of these pages.
+    /// Token that shows that a form came from one of these pages.
     pub token: &'a str,
-    /// A key has to be given for each order.
+    /// Flag, set if each order has to give a key.
     pub have_key: bool,
 }
 
-/// The field of a form for the key.
+/// Field of a form for the key.
 const KEY: &str =
     "<input type=\"password\" name=\"key\" placeholder=\"key\" aria-label=\"key\" autocomplete=\"new-password\">";
 
-/// The beginning of each page.
+/// Beginning of each page.
 const HEAD: &str = "<!DOCTYPE html>\n<html lang=\"en\"><head><meta charset=\"utf-8\">\
 <meta name=\"viewport\" content=\"width=device-width,initial-scale=1\"><title>Raxunto</title><style>\n";
 
-/// The looks of a page, by day.
+/// Styles of a page, in the light scheme.
 const LOOKS: &str =
     ":root{color-scheme:light dark;--ink:#1c2430;--dim:#5b6675;--paper:#fbfbf9;--card:#fff;\
 --line:#d9dde3;--go:#1f6f43;--wait:#9a5b00;--bad:#b3261e;--link:#1a5fb4}
@@ -41,7 +41,7 @@ p{color:var(--dim);margin:.4rem 0}
 .counts b{display:block;font-size:1.3rem;font-variant-numeric:tabular-nums}
 ";
 
-/// The looks of tables, forms and pictures.
+/// Styles of tables, forms and pictures.
 const TABLES: &str =
     "table{border-collapse:collapse;width:100%;background:var(--card);border:1px solid var(--line)}
 th,td{text-align:left;padding:.4rem .7rem;border-bottom:1px solid var(--line);vertical-align:middle}
@@ -62,13 +62,13 @@ td[data-is]:before{content:attr(data-is);color:var(--dim);margin-right:.5rem}}
 svg text{fill:var(--ink)}svg circle,svg rect{fill:currentColor}svg .branch{fill:none;stroke:var(--line);stroke-width:2}
 ";
 
-/// The looks of a page by night.
+/// Styles of a page in the dark scheme.
 const NIGHT: &str =
     "@media(prefers-color-scheme:dark){:root{--ink:#e4e7ec;--dim:#98a2b1;--paper:#14171c;--card:#1b2027;\
 --line:#333b47;--go:#6fcf97;--wait:#e8b45a;--bad:#ff8a80;--link:#8ab4f8}}
 </style></head><body><header><h1><a href=\"/\">Raxunto</a></h1>";
 
-/// Adds what a page begins with.
+/// Adds the beginning of a page, with the coordinator's base.
 pub(crate) fn begin(page: &mut Vec<u8>, names: &Names<'_>) -> Result<(), Memory>
     ensures { OnOk result (page.new.items ≡ page.old.items ++ pages.begin names.now.base.now) }
 {
@@ -84,7 +84,7 @@ pub(crate) fn begin(page: &mut Vec<u8>, names: &Names<'_>) -> Result<(), Memory>
     names.put_all(page, &pieces)
 }
 
-/// Adds the fields of a form that has it taken.
+/// Adds the fields of a form that the port requires: the token, and a field for the key if one is needed.
 pub(crate) fn put_fields(
     page: &mut Vec<u8>,
     names: &Names<'_>,
@@ -133,7 +133,7 @@ fn put_cancel_form(
     )
 }
 
-/// Adds a form that cancels an action, where it is one that may be.
+/// Adds a form that cancels an action, if the action can be cancelled.
 pub(crate) fn put_cancel(
     page: &mut Vec<u8>,
     names: &Names<'_>,
@@ -215,7 +215,7 @@ fn put_want_now(page: &mut Vec<u8>, names: &Names<'_>, want: Want) -> Result<(),
     names.put_all(page, &pieces)
 }
 
-/// Adds what a member is to be asked next, in so many milliseconds.
+/// Adds what a member is to be asked next, and in how many milliseconds.
 fn put_want_in(page: &mut Vec<u8>, names: &Names<'_>, want: Want, left: u64) -> Result<(), Memory>
     ensures { OnOk result (page.new.items ≡ page.old.items ++ pages.want_in want left) }
 {
@@ -258,7 +258,7 @@ pub(crate) fn put_next_ask(
     }
 }
 
-/// Adds a page that tells one sentence of this program, and a text from elsewhere.
+/// Adds a page that shows one sentence of this program, and a text from elsewhere.
 pub fn put_plain_page(
     page: &mut Vec<u8>,
     names: &Names<'_>,

@@ -5,22 +5,22 @@ use lra_model::{ActionStatus, AskKind, MemberStatus};
 /// A piece of a page, or of a list.
 #[derive(Clone, Copy)]
 pub enum Piece<'a> {
-    /// A text that this program itself has in it, as it stands. No text from elsewhere lives so long.
+    /// A text of this program, as it stands. No text from elsewhere has its lifetime.
     Own(&'static str),
     /// A text from elsewhere, escaped for HTML.
     Told(&'a str),
-    /// A text from elsewhere, as a JSON string. It belongs in no page.
+    /// A text from elsewhere, as a JSON string. No page may have it.
     Quoted(&'a str),
     /// A number in digits.
     Number(u64),
-    /// So many milliseconds, in words.
+    /// A number of milliseconds, in words.
     Span(u64),
-    /// The identifier of an action or of a member. Of a number that no identifier has nothing is added.
+    /// The identifier of an action or of a member. Adds nothing if no identifier has the number.
     Id(u64),
-    /// The word for how an action stands.
+    /// The word for the status of an action.
     Action(ActionStatus),
-    /// The word for how a member stands.
+    /// The word for the status of a member.
     Member(MemberStatus),
-    /// The word for what a member is asked.
+    /// The word for the kind of an ask.
     Kind(AskKind),
 }

@@ -1,18 +1,18 @@
-//! The number of actions that have each status.
+//! Numbers of actions that have each status.
 
 use lra_model::ActionStatus;
 
-/// The number of actions that have a status.
+/// Number of actions that have a status.
 #[derive(Clone, Copy)]
 pub struct Share {
     pub status: ActionStatus,
     pub count: u64,
 }
 
-/// The number of actions that have each status, in the order in which that is told.
+/// Numbers of actions that have each status, in the order in which replies list them.
 pub type Shares = [Share; 7];
 
-/// There are no actions.
+/// Numbers of no actions.
 pub const NONE: Shares = [
     Share {
         status: ActionStatus::Active,
@@ -44,7 +44,7 @@ pub const NONE: Shares = [
     },
 ];
 
-/// Adds so many of a status.
+/// Adds a number of actions of a status.
 pub(crate) fn add(shares: &mut Shares, status: ActionStatus, count: u64) {
     for share in shares.iter_mut() {
         if share.status.is_same(status) {
@@ -53,7 +53,7 @@ pub(crate) fn add(shares: &mut Shares, status: ActionStatus, count: u64) {
     }
 }
 
-/// Adds as many as others are.
+/// Adds the numbers of other actions, by their status.
 pub fn add_shares(shares: &mut Shares, others: &Shares) {
     for other in others {
         add(shares, other.status, other.count);
@@ -93,7 +93,7 @@ pub(crate) fn count_ending(shares: &Shares) -> u64 {
     all
 }
 
-/// Returns how many have ended as failed.
+/// Counts the actions that have ended as failed.
 pub(crate) fn count_failed(shares: &Shares) -> u64 {
     let mut all: u64 = 0;
     for share in shares {

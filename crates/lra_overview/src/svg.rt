@@ -1,4 +1,4 @@
-//! A picture of what hangs below an action: a line for each node, further right the deeper it hangs.
+//! A picture of the tree below an action: one line for each node, indented by its depth.
 
 ghost use Rattle.std.specs.Prelude.{◌≡◌, ◌++◌, OnOk};
 ghost use Rattle.std.specs.List.{flat_map};
@@ -10,7 +10,7 @@ use crate::pieces::Piece;
 use crate::tree::{Node, NodeOf};
 use lra_model::Memory;
 
-/// Adds the line from the node above to a node.
+/// Adds the stroke from the node above to a node, if there is one above.
 fn put_branch(
     page: &mut Vec<u8>,
     names: &Names<'_>,
@@ -97,7 +97,7 @@ fn put_member(
     names.put_all(page, &pieces)
 }
 
-/// Adds what a node stands for.
+/// Adds the mark of a node: its action or its member.
 fn put_mark(
     page: &mut Vec<u8>,
     names: &Names<'_>,
@@ -131,7 +131,7 @@ fn put_nodes(page: &mut Vec<u8>, names: &Names<'_>, nodes: &[Node]) -> Result<()
     Ok(())
 }
 
-/// Returns how deep the deepest node hangs.
+/// Returns the depth of the deepest node.
 fn depth_of(nodes: &[Node]) -> u32
     ensures { result ≡ pictures.deepest nodes.now }
 {
@@ -142,7 +142,7 @@ fn depth_of(nodes: &[Node]) -> u32
     deepest
 }
 
-/// Adds the picture's beginning, of a size.
+/// Adds the beginning of a picture of a size.
 fn put_opening(page: &mut Vec<u8>, names: &Names<'_>, width: u64, height: u64) -> Result<(), Memory>
     ensures { OnOk result (page.new.items ≡ page.old.items ++ pictures.opening width height) }
 {

@@ -1,4 +1,4 @@
-//! The tree of what hangs below an action.
+//! The tree of the members and the actions below an action.
 
 ghost use Rattle.std.specs.Prelude.{◌≡◌};
 
@@ -8,17 +8,17 @@ use crate::overview::Overview;
 use lra_ids::Instance;
 use std::alloc::Global;
 
-/// The most nodes that a tree has.
+/// Largest number of nodes of a tree.
 const MOST_NODES: usize = 400;
 
-/// The action or the member that a node stands for.
+/// Action or member that a node stands for.
 #[derive(Clone, Copy)]
 pub enum NodeOf {
     Action(ActionRow),
     Member(MemberRow),
 }
 
-/// A node of a tree: how deep it hangs, on which line it stands and on which line the one above it.
+/// Node of a tree: its depth, its line, and the line of the node above it.
 #[derive(Clone, Copy)]
 pub struct Node {
     pub depth: u32,
@@ -27,7 +27,7 @@ pub struct Node {
     pub of: NodeOf,
 }
 
-/// An action that is still to be gone into: how deep it hangs, and on which line the one above it stands.
+/// Action whose nodes are still to be added: its depth, and the line of the node above it.
 #[derive(Clone, Copy)]
 struct Pending {
     depth: u32,
@@ -35,12 +35,12 @@ struct Pending {
     action: u64,
 }
 
-/// The line that stands behind those of some nodes.
+/// Returns the line after those of some nodes.
 fn line_behind(nodes: &[Node]) -> u32 {
     u32::try_from(nodes.len()).unwrap_or(u32::MAX)
 }
 
-/// Adds the nodes of an action and of its members, and takes down the actions that are nested in it, the last first.
+/// Adds the nodes of an action and of its members. Adds the actions nested in it to `pending`, the last first.
 fn add_one(
     shown: &Shown,
     at: Pending,
@@ -73,7 +73,7 @@ fn add_one(
     Ok(())
 }
 
-/// Adds the nodes of all that is still to be gone into.
+/// Adds the nodes of all pending actions, and of those nested in them, up to the largest number of nodes.
 fn add_all<O: Overview>(
     alloc: Global,
     overview: &mut O,
@@ -98,8 +98,8 @@ fn add_all<O: Overview>(
     Ok(())
 }
 
-/// The tree of an action: each action before its members, and those before the actions nested in it. Of a large one
-/// only its first nodes are had.
+/// Returns the tree of an action: each action before its members, and these before the actions nested in it. Of a large
+/// tree it returns only the first nodes.
 pub fn tree_of<O: Overview>(
     alloc: Global,
     overview: &mut O,

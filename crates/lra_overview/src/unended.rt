@@ -11,25 +11,25 @@ use lra_ids::Instance;
 use lra_model::ActionStatus;
 use std::alloc::Global;
 
-/// The next row of a status, as far as it was looked for.
+/// Next row of a status, as far as the search has come.
 #[derive(Clone, Copy)]
 enum Ahead {
-    /// It is to be looked for from this place on.
+    /// The search goes on from this place.
     From(u64),
-    /// This row was found.
+    /// The search found this row.
     Found(Placed),
     /// No more rows have the status.
     Nothing,
 }
 
-/// A status, and how far its actions were gone through.
+/// Status, and the progress of the search through its actions.
 #[derive(Clone, Copy)]
 struct Cursor {
     status: ActionStatus,
     ahead: Ahead,
 }
 
-/// A cursor before the first action of a status from a place on.
+/// Makes a cursor before the first action of a status, from a place on.
 fn begin(status: ActionStatus, from: u64) -> Cursor {
     Cursor {
         status,
@@ -37,7 +37,7 @@ fn begin(status: ActionStatus, from: u64) -> Cursor {
     }
 }
 
-/// The cursors of the statuses that actions have which haven't ended.
+/// Cursors of the statuses of actions that haven't ended.
 #[derive(Clone, Copy)]
 struct Search {
     active: Cursor,
@@ -46,7 +46,7 @@ struct Search {
 }
 
 impl Cursor {
-    /// The place that is looked at next, if one is.
+    /// Returns the place at which the cursor goes on, if there is one.
     fn place(&self) -> Option<u64> {
         match self.ahead {
             Ahead::From(place) => Some(place),
@@ -55,7 +55,7 @@ impl Cursor {
         }
     }
 
-    /// Returns whether it comes before another.
+    /// Returns whether the cursor's place comes before that of another, or is the same.
     fn is_before(&self, other: &Cursor) -> bool {
         match (self.place(), other.place()) {
             (Some(own), Some(place)) => own <= place,
@@ -64,8 +64,8 @@ impl Cursor {
         }
     }
 
-    /// Looks for its next row, where none was found yet: at so many rows as one query does. Gives the row that was
-    /// found before.
+    /// Returns the row that the cursor found before, if there is one. Otherwise searches for the next row, among as
+    /// many rows as one query reads, and returns none.
     fn step<O: Overview>(
         &mut self,
         overview: &mut O,
@@ -88,7 +88,7 @@ impl Cursor {
     }
 }
 
-/// Looks for the next row of a status.
+/// Searches for the next row of a status, by one query.
 fn look<O: Overview>(
     overview: &mut O,
     instance: Instance,
@@ -108,7 +108,7 @@ fn look<O: Overview>(
 }
 
 impl Search {
-    /// Before all actions from a place on.
+    /// Makes a search that begins before all actions from a place on.
     fn new(from: u64) -> Search {
         Search {
             active: begin(ActionStatus::Active, from),
@@ -117,13 +117,13 @@ impl Search {
         }
     }
 
-    /// Returns whether no row comes any more.
+    /// Returns whether the search has no more rows.
     fn is_over(&self) -> bool {
         let closed = self.closing.place().is_none() && self.cancelling.place().is_none();
         closed && self.active.place().is_none()
     }
 
-    /// The cursor that is behind the others.
+    /// Returns the cursor with the first place.
     fn first(&mut self) -> &mut Cursor {
         if self.active.is_before(&self.closing) && self.active.is_before(&self.cancelling) {
             return &mut self.active;
@@ -134,7 +134,8 @@ impl Search {
         &mut self.cancelling
     }
 
-    /// The next row of all. Each is looked for where the last one was found, and not from the beginning again.
+    /// Returns the next row of any of the statuses. Each cursor goes on from its last row, and not from the beginning
+    /// again.
     fn next<O: Overview>(
         &mut self,
         overview: &mut O,
@@ -156,7 +157,7 @@ impl Search {
     }
 }
 
-/// Adds so many actions that haven't ended, from a place on. Tells the place to go on from, where there may be more.
+/// Adds so many actions that haven't ended, from a place on. Returns the place to go on from, if there may be more.
 fn add_unended<O: Overview>(
     overview: &mut O,
     instance: Instance,
@@ -176,7 +177,7 @@ fn add_unended<O: Overview>(
         let Some(placed) = search.next(overview, instance, census)? else {
             return Ok(None);
         };
-        // One whose status changes meanwhile may be found again.
+        // An action whose status changes meanwhile may be found again.
         if placed.place < from {
             continue;
         }
@@ -188,8 +189,8 @@ fn add_unended<O: Overview>(
     Ok(Some(from))
 }
 
-/// So many actions that haven't ended, the oldest first, from a place on. Where all have ended, as a census knows, none
-/// is looked for.
+/// Lists so many actions that haven't ended, the oldest first, from a place on. Skips stretches of which the census
+/// knows that all actions have ended.
 pub fn list_unended<O: Overview>(
     alloc: Global,
     overview: &mut O,

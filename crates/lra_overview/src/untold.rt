@@ -9,7 +9,8 @@ use lra_commands::{Known, Listing, Query, Row, Want};
 use lra_ids::Instance;
 use std::alloc::Global;
 
-/// The most queries that are asked for one count of the actions that were looked at before, and as many of the others.
+/// Largest number of queries that one count asks about the actions that were read before, and as many again about the
+/// others.
 const MOST: u64 = 4_096;
 
 /// Returns whether a member of an action that has ended is still to be told so, or to be forgotten: it is being asked,
@@ -20,31 +21,31 @@ pub fn is_untold(ask: Option<u64>, want: Option<Want>, is_given_up: bool) -> boo
     (ask.is_some() || want.is_some()) && !is_given_up
 }
 
-/// The outcome of a look at an action.
+/// Outcome of reading an action and its members.
 #[derive(Clone, Copy)]
 enum Looked {
-    /// There is none at that place.
+    /// There is no action at that place.
     Missing,
-    /// No more may be asked for this count: the next one goes on there.
+    /// No query is left for this count. The next count goes on from there.
     Cut,
-    /// It has ended, and each of its members knows.
+    /// The action has ended, and each of its members knows.
     Done,
-    /// It hasn't ended, or so many of its members are untold.
+    /// The action hasn't ended, or so many of its members are untold.
     Open(u64),
 }
 
-/// A look at actions that goes on from count to count.
+/// Progress of reading actions, which goes on from count to count.
 #[derive(Clone, Copy)]
 struct Look {
-    /// The number of queries that may still be asked for this count.
+    /// Number of queries that are left for this count.
     left: u64,
-    /// The place of the member that is looked at next, of the action under way.
+    /// Place of the next member to read, of the action under way.
     from: u64,
-    /// The number of members before it that are untold.
+    /// Number of members before it that are untold.
     untold: u64,
 }
 
-/// No look has begun.
+/// Progress of reading that hasn't begun.
 const AFRESH: Look = Look {
     left: 0,
     from: 0,
@@ -61,7 +62,7 @@ impl Look {
         true
     }
 
-    /// Looks at the members of an action, from where the look stands on. Returns whether none is left.
+    /// Reads the members of an action, from the place on where the last count stopped. Returns whether all were read.
     fn add_members<O: Overview>(
         &mut self,
         overview: &mut O,
@@ -98,7 +99,7 @@ impl Look {
         Ok(true)
     }
 
-    /// Ends the look at an action of which all members were looked at.
+    /// Ends reading an action, once all its members were read.
     fn finish(&mut self) -> Looked {
         let untold = self.untold;
         self.from = 0;
@@ -110,7 +111,7 @@ impl Look {
         }
     }
 
-    /// Looks at the action at a place.
+    /// Reads the action at a place, and its members if it has ended.
     fn look<O: Overview>(
         &mut self,
         overview: &mut O,
@@ -141,30 +142,29 @@ impl Look {
     }
 }
 
-/// An action that is looked at again.
+/// Action that each count reads again.
 #[derive(Clone, Copy)]
 struct Kept {
     place: u64,
-    /// The number of its members that were untold when it was looked at last.
+    /// Number of its members that were untold when it was read last.
     untold: u64,
 }
 
-/// The knowledge of the members that are untold. An action that has ended, and of which each member knows, is looked at
-/// once.
+/// Counts of the members that are untold. An action that has ended, and of which each member knows, is read only once.
 #[derive(Drop)]
 pub(crate) struct Telling {
-    /// The other actions that were looked at.
+    /// Other actions that were read.
     kept: Vec<Kept>,
-    /// Which of them is looked at next, and how far that is.
+    /// Index of the next of them to read, and the progress of reading it.
     next: usize,
     again: Look,
-    /// From this place on no action was looked at, and how far the one there is.
+    /// Place from which on no action was read, and the progress of reading the one there.
     behind: u64,
     ahead: Look,
 }
 
 impl Telling {
-    /// Nothing was looked at.
+    /// Makes the counts of no action.
     pub(crate) fn new(alloc: Global) -> Telling {
         Telling {
             kept: Vec::new(alloc),
@@ -175,7 +175,7 @@ impl Telling {
         }
     }
 
-    /// Notes what the kept action that is next came to. Returns whether the look goes on.
+    /// Notes the outcome of reading the next kept action. Returns whether this count goes on.
     fn note(&mut self, looked: Looked) -> bool {
         match looked {
             Looked::Cut => return false,
@@ -202,7 +202,7 @@ impl Telling {
         self.kept.get(self.next).map(|kept| kept.place)
     }
 
-    /// Looks again at the actions that were kept, each once.
+    /// Reads the kept actions again, each once.
     fn look_again<O: Overview>(
         &mut self,
         overview: &mut O,
@@ -223,7 +223,7 @@ impl Telling {
         Ok(())
     }
 
-    /// Looks at actions that weren't looked at before.
+    /// Reads actions that weren't read before.
     fn look_ahead<O: Overview>(
         &mut self,
         overview: &mut O,
@@ -244,7 +244,7 @@ impl Telling {
         Ok(())
     }
 
-    /// Returns how many members of the actions that were looked at are untold.
+    /// Returns how many members of the kept actions are untold.
     fn total(&self) -> u64 {
         let mut total: u64 = 0;
         for kept in self.kept.as_slice() {
@@ -253,8 +253,8 @@ impl Telling {
         total
     }
 
-    /// Returns how many members are untold, as far as was looked: some thousands of queries are asked at most, and the
-    /// next count goes on there.
+    /// Returns how many members are untold, of the actions that were read so far. One count asks some thousands of
+    /// queries at most, and the next one goes on from there.
     pub(crate) fn count<O: Overview>(
         &mut self,
         overview: &mut O,

@@ -1,10 +1,10 @@
--- What is told where there is no port for operators.
+-- What the program reports if there is no port for operators.
 use Rattle.std.specs.Prelude.{ℕ, List, ◌++◌, codes}
 use Rattle.lra_watchpost.specs.declared.fault.PortFault.{PortFault}
 use Rattle.lra_watchpost.specs.declared.fault.PortFault.TheVariants.{Address, NoKey, KeyFile, SharedKey, BadKey}
 use Rattle.lra_watchpost.specs.declared.fault.PortFault.TheVariants.{NoToken, Memory}
 
--- why there is none
+-- the reason why there is none, in words (this project's choice)
 abbrev pub why : PortFault → List ℕ
 why Address = codes "the address cannot be served"
 why NoKey = codes "other machines reach it, and no key is given"

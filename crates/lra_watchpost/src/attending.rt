@@ -12,38 +12,39 @@ use std::sync::Wait;
 use std::thread::sleep;
 use std::time::{Clock, Duration, Instant};
 
-/// The seconds that a visit may take.
+/// Number of seconds that a visit may take.
 const VISIT: u64 = 10;
 
-/// The most visitors that there are at once.
+/// Largest number of visitors at once.
 const MOST: usize = 64;
 
-/// The number of visitors that are let in at a look, and of requests that are answered. Where so many come, more may
+/// Largest number of visitors that one iteration accepts, and of requests that it answers. If so many come, more may
 /// wait: a crowd.
 const AT_ONCE: usize = 4;
 
-/// The number of times that one visitor is read or written at a look.
+/// Largest number of times that one iteration reads from or writes to one visitor.
 const STEPS: usize = 8;
 
-/// The milliseconds that pass at least before it is looked anew: where something moved, and where nothing did or a
-/// crowd comes. Each look may take a processor from a thread that answers services, and so a crowd has fewer of them.
+/// Least number of milliseconds between two iterations: `SHORT` after one in which a visitor came or bytes moved, and
+/// `LONG` after one in which neither happened or a crowd came. Each iteration may take a processor from a thread that
+/// answers services, so a crowd gets fewer of them.
 const SHORT: u64 = 2;
 
 const LONG: u64 = 20;
 
-/// Something that knows whether a service has ended.
+/// Source that knows whether a service has ended.
 pub trait Ends {
-    /// Returns whether no one answers any more.
+    /// Returns whether the service has ended, so that no thread answers any more.
     fn is_over(&self) -> bool;
 }
 
-/// The listener that is told of requests that may not be made.
+/// Listener that is told which requests the port refuses.
 pub trait Turned {
-    /// A request was refused with that status code, for its key or for where it comes from.
+    /// Notes that a request was refused with a status code, for its key or for where it comes from.
     fn turned_away(&self, code: u16);
 }
 
-/// The status code of a reply, where that tells that a request may not be made.
+/// Returns the status code of a reply if it says that a request may not be made: 401 or 403.
 fn turned_code(reply: &[u8]) -> Option<u16> {
     match reply.get(9..12) {
         Some(code) if code == b"401".as_slice() => Some(401),
@@ -52,29 +53,29 @@ fn turned_code(reply: &[u8]) -> Option<u16> {
     }
 }
 
-/// Connections of operators that are open, and what answers them.
+/// Open connections of operators, and the port that answers them.
 #[derive(Drop)]
 struct Desk {
     alloc: Global,
     port: Port,
     visitors: Vec<Visitor>,
-    /// The outcome of this look.
+    /// Outcome of this iteration.
     look: Look,
 }
 
-/// The outcome of a look.
+/// Outcome of an iteration.
 #[derive(Clone, Copy)]
 struct Look {
-    /// The number of visitors that have come.
+    /// Number of visitors that have come.
     came: usize,
-    /// The number of requests that may still be answered.
+    /// Number of requests that may still be answered.
     left: usize,
-    /// A flag, set where a byte came or went.
+    /// Flag, set once a byte came or went.
     has_moved: bool,
 }
 
 impl Look {
-    /// One that begins.
+    /// Makes the outcome of an iteration that begins.
     fn new() -> Look {
         Look {
             came: 0,
@@ -83,7 +84,7 @@ impl Look {
         }
     }
 
-    /// Returns how long it rests at least behind it.
+    /// Returns how long the server rests at least after the iteration.
     fn pause(&self) -> Duration {
         let is_quick = self.came < AT_ONCE && (self.came > 0 || self.has_moved);
         Duration::from_millis(if is_quick { SHORT } else { LONG })
@@ -99,8 +100,8 @@ fn has_passed<R: Clock>(rt: &R, end: Instant) -> bool {
 }
 
 impl Desk {
-    /// Gives a new connection a place. Where all are taken, the oldest gives way: no slow or silent client keeps others
-    /// out.
+    /// Gives a new connection a client slot. If all slots are taken, the oldest connection is closed, so no slow or
+    /// silent client keeps others out.
     fn seat<R: Clock>(&mut self, rt: &R, stream: TcpStream) {
         let Ok(end) = seconds_on(rt, VISIT) else {
             return;
@@ -114,7 +115,7 @@ impl Desk {
         let _ = self.visitors.push(Visitor::new(self.alloc, stream, end));
     }
 
-    /// Gives new connections a place, a few at most.
+    /// Accepts new connections, a few at most.
     fn admit<R: Clock>(&mut self, rt: &R, post: &Watchpost) {
         for count in 0..AT_ONCE {
             match post.listener.accept() {
@@ -157,7 +158,7 @@ impl Desk {
         }
     }
 
-    /// Reads and writes what can be, of one visitor.
+    /// Reads or writes once for one visitor, as much as can be at once. Its visit ends once its time has passed.
     fn step<R: Clock>(&mut self, rt: &R, place: usize) -> Step {
         let alloc = self.alloc;
         match self.visitors.get_mut(place) {
@@ -167,14 +168,14 @@ impl Desk {
         }
     }
 
-    /// Lets the visitor at a place go.
+    /// Closes the connection of the visitor at a place.
     fn dismiss(&mut self, place: usize) {
         if place < self.visitors.len() {
             drop(self.visitors.remove(place));
         }
     }
 
-    /// Reads, answers and writes as far as can be at once, of one visitor. Tells whether it stays.
+    /// Reads, answers and writes for one visitor, as far as can be at once. Returns whether the visitor stays.
     fn look_after<R: Clock, O: Overview, T: Turned>(
         &mut self,
         rt: &R,
@@ -197,7 +198,7 @@ impl Desk {
         true
     }
 
-    /// Looks after each visitor once.
+    /// Runs one iteration: accepts new visitors, and serves each visitor once.
     fn turn<R: Clock, O: Overview, T: Turned>(
         &mut self,
         rt: &R,
@@ -221,7 +222,7 @@ impl Desk {
         }
     }
 
-    /// Looks after each visitor once. The answer is how long it rests behind that.
+    /// Runs one iteration. Returns how long the server rests after it.
     fn turn_and_rest<R: Clock, O: Overview, T: Turned>(
         &mut self,
         rt: &R,
@@ -240,8 +241,9 @@ impl Desk {
     }
 }
 
-/// Answers the connections of the port, by an overview of the service, until that has ended. Each has 10 s. Slow ones
-/// hold up no other: each is read and written as far as can be at once. Requests that may not be made are told of.
+/// Answers the connections of the port, from an overview of the service, until the service has ended. Each connection
+/// has 10 s. A slow one holds up no other, as each is read and written as far as can be at once. Reports the requests
+/// that may not be made to `turned`.
 pub fn attend<R: Wait + Clock, O: Overview, E: Ends, T: Turned>(
     rt: &R,
     alloc: Global,

@@ -1,4 +1,4 @@
-//! A carriage of errands, which are tallied.
+//! A callback pool that tallies its errands.
 
 ghost use Rattle.std.specs.Prelude.{◌≡◌};
 
@@ -9,14 +9,14 @@ use lra_model::{AskKind, Outcome};
 use std::alloc::Global;
 use std::time::{Clock, Instant};
 
-/// An errand that is under way, and since when.
+/// Errand that is under way, and the moment since when it is.
 #[derive(Clone, Copy)]
 struct Begun {
     ask: u64,
     since: Instant,
 }
 
-/// A carriage over another one, which tallies the outcomes.
+/// Callback pool that wraps another one and tallies the outcomes.
 #[derive(Drop)]
 pub struct CountedCarriage<'a, C, R> {
     inner: C,
@@ -26,7 +26,7 @@ pub struct CountedCarriage<'a, C, R> {
 }
 
 impl<'a, C, R> CountedCarriage<'a, C, R> {
-    /// A carriage over another one, with which nothing is under way yet.
+    /// Makes a callback pool that wraps another one. No errand is under way yet.
     pub fn new(
         alloc: Global,
         inner: C,
@@ -43,7 +43,7 @@ impl<'a, C, R> CountedCarriage<'a, C, R> {
         }
     }
 
-    /// Returns the inner carriage.
+    /// Returns the inner callback pool.
     pub fn into_inner(self) -> C
         ensures { result ≡ self.entry.inner }
     {
@@ -59,7 +59,7 @@ impl<'a, C, R> CountedCarriage<'a, C, R> {
 }
 
 impl<C, R: Clock> CountedCarriage<'_, C, R> {
-    /// Notes that an errand is under way. Where that can't be noted its time isn't tallied.
+    /// Notes that an errand is under way. If memory or the clock fails, the errand's time isn't tallied.
     fn begin(&mut self, ask: u64)
         ensures { self.new.inner ≡ self.old.inner }
     {
@@ -68,7 +68,7 @@ impl<C, R: Clock> CountedCarriage<'_, C, R> {
         }
     }
 
-    /// Takes down what came of an errand.
+    /// Tallies the outcome of an errand, and its time where its start was noted.
     fn end(&mut self, ask: u64, kind: AskKind, outcome: Outcome)
         ensures { self.new.inner ≡ self.old.inner }
     {

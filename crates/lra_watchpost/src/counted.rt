@@ -1,4 +1,4 @@
-//! A responder to requests, which are tallied.
+//! A filter that tallies requests.
 
 ghost use Rattle.std.specs.Prelude.{◌≡◌};
 
@@ -11,7 +11,7 @@ use lra_wire::RequestRead;
 use std::alloc::Global;
 use std::time::{Clock, Instant};
 
-/// A responder that answers requests as another one does, and tallies them.
+/// Handler that answers requests as another one does, and tallies them.
 #[derive(Drop)]
 pub struct CountedResponder<'a, A, R> {
     inner: A,
@@ -19,20 +19,20 @@ pub struct CountedResponder<'a, A, R> {
     tallies: &'a Tallies,
 }
 
-/// Returns whether an answer tells that the coordinator has stopped.
+/// Returns whether an answer says that the coordinator has stopped.
 fn has_stopped(answer: Answer) -> bool {
     matches!(answer, Answer::Denied(Denial::Refused(Refusal::Stopped)))
 }
 
 impl<'a, A, R> CountedResponder<'a, A, R> {
-    /// One that answers as another does.
+    /// Makes a handler that answers as another one does.
     pub fn new(inner: A, rt: &'a R, tallies: &'a Tallies) -> CountedResponder<'a, A, R>
         ensures { result.inner ≡ inner }
     {
         CountedResponder { inner, rt, tallies }
     }
 
-    /// That other.
+    /// Returns the inner handler.
     pub fn into_inner(self) -> A
         ensures { result ≡ self.entry.inner }
     {

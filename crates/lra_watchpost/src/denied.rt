@@ -1,14 +1,14 @@
-//! The number of requests that were denied before they were looked at.
+//! Counts of requests that were denied before they were handled.
 
 use lra_front::Denial;
 use lra_model::Memory;
 use lra_overview::{Kind, describe, put, put_number};
 use std::sync::atomic::{AtomicU64, Ordering};
 
-/// The measure's name.
+/// Name of the measure.
 const NAME: &str = "lra_requests_denied_total";
 
-/// The numbers of requests that were denied, by why.
+/// Numbers of requests that were denied, by the reason.
 #[derive(Drop)]
 pub(crate) struct Denied {
     key: AtomicU64,
@@ -16,7 +16,7 @@ pub(crate) struct Denied {
     origin: AtomicU64,
 }
 
-/// Adds the line of one reason.
+/// Adds the line of one reason to a page.
 fn put_why(page: &mut Vec<u8>, why: &'static str, count: &AtomicU64) -> Result<(), Memory> {
     put(page, NAME)?;
     put(page, "{why=\"")?;
@@ -27,7 +27,7 @@ fn put_why(page: &mut Vec<u8>, why: &'static str, count: &AtomicU64) -> Result<(
 }
 
 impl Denied {
-    /// None was.
+    /// Makes counts of 0.
     pub(crate) fn new() -> Denied {
         Denied {
             key: AtomicU64::new(0),
@@ -36,7 +36,7 @@ impl Denied {
         }
     }
 
-    /// A request was. Other reasons than these three are those of answers.
+    /// Counts a denied request. Counts only these three reasons; the others are counted with the answers.
     pub(crate) fn add(&self, denial: Denial) {
         let count = match denial {
             Denial::WrongKey => &self.key,
@@ -47,7 +47,7 @@ impl Denied {
         count.fetch_add(1, Ordering::SeqCst);
     }
 
-    /// Adds it as a measure.
+    /// Adds the counts to a page, as a measure.
     pub(crate) fn put(&self, page: &mut Vec<u8>) -> Result<(), Memory> {
         describe(
             page,

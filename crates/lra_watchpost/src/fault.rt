@@ -1,20 +1,20 @@
-//! Why there is no port for operators.
+//! Reasons why there is no port for operators.
 
 ghost use Rattle.std.specs.Prelude.{◌≡◌, IfOk, string_bytes};
 ghost use Rattle.lra_watchpost.specs.Faults as specs;
 
 use std::alloc::{AllocError, Global};
 
-/// Why there is no port for operators.
+/// Reason why there is no port for operators.
 #[derive(Clone, Copy, Debug, PartialEq, Eq)]
 pub enum PortFault {
-    /// It is no host and port, or can't be bound.
+    /// The address is no host and port, or can't be bound.
     Address,
-    /// Other machines reach the address, and no key is asked for.
+    /// Other machines reach the address, and no key is required.
     NoKey,
     /// The file of the key can't be read.
     KeyFile,
-    /// Others than its owner may read the file of the key.
+    /// Other users than its owner may read the file of the key.
     SharedKey,
     /// The file of the key isn't one line of visible characters.
     BadKey,
@@ -31,7 +31,7 @@ impl From<AllocError> for PortFault {
 }
 
 impl PortFault {
-    /// Returns what is told of it.
+    /// Returns the words that report the fault.
     const fn text(self) -> &'static str
         ensures { result.now ≡ specs.why self }
     {
@@ -47,7 +47,7 @@ impl PortFault {
     }
 }
 
-/// The line that tells why there is no port at an address.
+/// Writes the line that reports why there is no port at an address.
 pub fn port_line(alloc: Global, fault: PortFault, address: &str) -> Result<String, AllocError>
     ensures { IfOk result (λ text. string_bytes text ≡ specs.port_line fault address.now) }
 {

@@ -1,4 +1,4 @@
-//! Which orders operators gave.
+//! The orders that operators gave.
 
 ghost use Rattle.std.specs.Prelude.{◌≡◌, [], ◌∷◌, ◌++◌, IfSome};
 
@@ -6,13 +6,13 @@ use lra_commands::Order;
 use lra_ids::Instance;
 use lra_log::Log;
 
-/// Which orders were given, each with the journal that it was given to. Contracts alone read it.
+/// Orders that were given, each with the journal that it was given to. Only contracts read them.
 #[derive(Drop)]
 pub struct Given {
     pub log: Log<Instance, Order<'static>>,
 }
 
-/// An order that operators may give: one that names an action or a member, and nothing else.
+/// Returns an order if operators may give it: a close or a cancel of an action, or the report of a member.
 pub fn operators_order(order: &Order<'_>) -> Option<Order<'static>>
     ensures { IfSome result (λ own. own ≡ order.now) }
 {
@@ -25,14 +25,14 @@ pub fn operators_order(order: &Order<'_>) -> Option<Order<'static>>
 }
 
 impl Given {
-    /// None was given.
+    /// Makes a list of no orders.
     pub fn new() -> Given
         ensures { result.log.items ≡ [] }
     {
         Given { log: Log::new() }
     }
 
-    /// Notes one.
+    /// Notes an order, with the journal that it was given to.
     pub fn note(&mut self, instance: Instance, order: &Order<'static>)
         ensures { self.new.log.items ≡ self.old.log.items ++ (instance, order.now) ∷ [] }
     {

@@ -1,21 +1,21 @@
-//! The way in which a histogram is told.
+//! The text of a histogram as a measure.
 
 use lra_model::Memory;
 use lra_overview::{Kind, describe, put, put_number, put_parts};
 use lra_storage::Histogram;
 
-/// The quantity that a histogram measures. Its name and what it is need no escapes.
+/// Quantity that a histogram measures. Neither `name` nor `help` needs escapes.
 #[derive(Clone, Copy)]
 pub(crate) struct Measured {
     pub(crate) name: &'static str,
     pub(crate) help: &'static str,
-    /// The ends of the classes.
+    /// Upper ends of the classes.
     pub(crate) ends: &'static [u64],
-    /// The number of what is counted that makes up one of what is told.
+    /// Number of counted units in one unit of the text.
     pub(crate) parts: u64,
 }
 
-/// Adds an amount.
+/// Adds an amount to a page, in the unit of the text.
 fn put_amount(page: &mut Vec<u8>, amount: u64, parts: u64) -> Result<(), Memory> {
     if parts == 1 {
         put_number(page, amount)
@@ -24,7 +24,7 @@ fn put_amount(page: &mut Vec<u8>, amount: u64, parts: u64) -> Result<(), Memory>
     }
 }
 
-/// Adds the line of one class: how often it was no more than that.
+/// Adds the line of one class: how many amounts were no more than its end.
 fn put_class(
     page: &mut Vec<u8>,
     measured: &Measured,
@@ -42,7 +42,7 @@ fn put_class(
     put(page, "\n")
 }
 
-/// Adds the lines of all classes. Tells how often it was in all.
+/// Adds the lines of all classes. Returns how many amounts there were in all.
 fn put_classes(
     page: &mut Vec<u8>,
     measured: &Measured,
@@ -58,7 +58,7 @@ fn put_classes(
     Ok(all)
 }
 
-/// Adds a histogram as a measure.
+/// Adds a histogram to a page, as a measure.
 pub(crate) fn put_histogram(
     page: &mut Vec<u8>,
     measured: &Measured,

@@ -10,10 +10,10 @@ use std::alloc::Global;
 use std::fs::File;
 use std::rt::Files;
 
-/// The most bytes that the file of a key has.
+/// Largest number of bytes that the file of a key has.
 const LONGEST: usize = 1_024;
 
-/// The line without its end.
+/// Returns a line without its end.
 fn line_of(text: &str) -> &str {
     match text.strip_suffix("\n") {
         Some(line) => line.strip_suffix("\r").unwrap_or(line),
@@ -35,7 +35,7 @@ fn is_key(text: &[u8]) -> bool
     !text.is_empty() && text.len() < LONGEST && all_shown(text)
 }
 
-/// A key that is a text.
+/// Returns a text as a key, or `PortFault::BadKey` if it can't be one.
 fn own_key(alloc: Global, text: &str) -> Result<String, PortFault>
     ensures { IfOk result (λ key. is_key (string_bytes key) ≡ true) }
 {
@@ -45,7 +45,7 @@ fn own_key(alloc: Global, text: &str) -> Result<String, PortFault>
     Ok(String::from_str(alloc, text)?)
 }
 
-/// The key that the bytes of a file are.
+/// Returns the key that the bytes of a file are, or `PortFault::BadKey` if they aren't one.
 fn key_of(alloc: Global, bytes: &[u8]) -> Result<String, PortFault>
     ensures { IfOk result (λ key. is_key (string_bytes key) ≡ true) }
 {
@@ -55,7 +55,7 @@ fn key_of(alloc: Global, bytes: &[u8]) -> Result<String, PortFault>
     }
 }
 
-/// Reads the key that stands in a file, alone on its one line. Nobody but its owner may read it.
+/// Reads the key from a file that has it alone, on its one line. No user but its owner may read the file.
 pub fn read_key<R: Files<File = File>>(
     rt: &R,
     alloc: Global,

@@ -1,5 +1,4 @@
-//! The operators' port over sockets: its listener, its server, what is tallied, and what the system tells of the
-//! process.
+//! The operators' port over sockets: its listener, its server, the tallies, and the process statistics of the system.
 #![tactic(auto)]
 
 mod attending;

@@ -1,4 +1,4 @@
-//! The share of a processor that operators' looks may take.
+//! The part of a processor's time that the operators' server may take.
 
 ghost use Rattle.std.specs.Prelude.{◌≡◌, ◌+◌, ◌-◌, ◌*◌, ◌/◌, min};
 ghost use Rattle.std.specs.Duration.{as_nanos, max_nanos};
@@ -6,17 +6,17 @@ ghost use Rattle.std.specs.Time.{instant_nanos};
 
 use std::time::{Duration, Instant};
 
-/// Of which part of a processor's time is forgiven as it passes: a twentieth.
+/// Divisor of the time that passes: a twentieth of it is forgiven.
 const SHARE: u32 = 20;
 
-/// The time that may be taken at once, in milliseconds, before it is slowed down: so one operator's pages are answered
-/// without a rest.
+/// Time that may be taken at once, in milliseconds, before the server slows down. So it answers the pages of one
+/// operator without a rest.
 const AT_ONCE: u64 = 200;
 
-/// The longest rest, in milliseconds.
+/// Longest rest, in milliseconds.
 const LONGEST: u64 = 500;
 
-/// The time that was taken of a processor and isn't forgiven yet: of the time that passes a twentieth is.
+/// Processor time that was taken and isn't forgiven yet. A twentieth of the time that passes is forgiven.
 #[derive(Drop)]
 pub(crate) struct Pace {
     taken: Duration,
@@ -24,7 +24,7 @@ pub(crate) struct Pace {
 }
 
 impl Pace {
-    /// Nothing was taken by this moment.
+    /// Makes the state of a moment by which nothing was taken.
     pub(crate) fn new(now: Instant) -> Pace
         ensures none { as_nanos result.taken ≡ 0 }
         ensures until { result.until ≡ now }
@@ -35,8 +35,8 @@ impl Pace {
         }
     }
 
-    /// Notes what was taken between two moments. The answer is how long to rest, until no more than may be taken at
-    /// once is left, or half a second at most.
+    /// Notes the time that was taken between two moments. Returns how long to rest until no more is left than may be
+    /// taken at once, or half a second at most.
     pub(crate) fn rest(&mut self, begun: Instant, now: Instant) -> Duration
         ensures until { self.new.until ≡ now }
         ensures taken { as_nanos self.new.taken

@@ -1,4 +1,4 @@
-//! Where operators come in.
+//! The operators' server: where operators connect.
 
 ghost use Rattle.std.specs.Prelude.{◌≡◌, IfOk, string_bytes, option_map};
 ghost use Rattle.lra_operators.specs.Access as spec;
@@ -13,8 +13,8 @@ use std::fs::File;
 use std::net::{Net, TcpListener, TcpStream};
 use std::rt::Files;
 
-/// Where operators come in: a listener, the key that they have to give, if there is one, the word that the forms of the
-/// pages have, the files in which the system tells of the process, and what syncs of the disk are timed by.
+/// Server that operators connect to: a listener, the key that they have to give, if there is one, the token that the
+/// pages' forms carry, the files that process statistics are read from, and the stopwatch that times syncs of the disk.
 #[derive(Drop)]
 pub struct Watchpost {
     pub(crate) listener: TcpListener,
@@ -24,7 +24,7 @@ pub struct Watchpost {
     stopwatch: Stopwatch,
 }
 
-/// Returns whether a listener can be reached from this machine alone.
+/// Returns whether a listener can be reached only from this machine.
 fn is_own(listener: &TcpListener) -> bool {
     match listener.local_addr() {
         Ok(address) => address.ip().is_loopback(),
@@ -32,7 +32,7 @@ fn is_own(listener: &TcpListener) -> bool {
     }
 }
 
-/// A listener at an address, which has to be one of the machine's own where no key is asked for.
+/// Opens a listener at an address. If no key is required, the address has to be one of the machine's own.
 fn listen<R: Net<Stream = TcpStream, Listener = TcpListener>>(
     rt: &R,
     address: &str,
@@ -55,8 +55,8 @@ fn listen<R: Net<Stream = TcpStream, Listener = TcpListener>>(
 }
 
 impl Watchpost {
-    /// One at a host and port, which asks for that key, if there is one. Without a key it has to be an address of the
-    /// machine's own.
+    /// Opens an operators' server at a host and port, which asks for that key, if there is one. Without a key, the
+    /// address has to be one of the machine's own.
     pub fn open<R: Net<Stream = TcpStream, Listener = TcpListener> + Files<File = File> + Timed>(
         rt: &R,
         alloc: Global,
@@ -78,7 +78,7 @@ impl Watchpost {
         }
     }
 
-    /// Returns what the system tells of the process now.
+    /// Reads the process statistics.
     pub fn vitals(&self) -> Vitals {
         self.gauges.read()
     }
@@ -88,7 +88,7 @@ impl Watchpost {
         self.stopwatch
     }
 
-    /// Returns what requests need to be taken.
+    /// Returns the secrets that a request has to give to be admitted.
     pub(crate) fn access(&self) -> Access<'_>
         ensures key { spec.key_of result ≡ option_map string_bytes self.now.key }
         ensures token { result.token.now ≡ string_bytes self.now.token }

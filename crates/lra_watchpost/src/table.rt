@@ -1,4 +1,4 @@
-//! The table of how often something of two kinds was.
+//! A table of counts, by two labels.
 
 use lra_front::Operation;
 use lra_model::Memory;
@@ -6,12 +6,12 @@ use lra_overview::{Kind, describe, put, put_number};
 use std::alloc::Global;
 use std::sync::atomic::{AtomicU64, Ordering};
 
-/// The words of a table's rows.
+/// Words of a table's rows.
 #[derive(Clone, Copy)]
 pub(crate) enum Rows {
-    /// These.
+    /// A list of words.
     Words(&'static [&'static str]),
-    /// The operations' labels, and behind them `none`, for what is none of them.
+    /// Labels of the operations, and after them `none`, for requests of no operation.
     Operations,
 }
 
@@ -23,7 +23,7 @@ pub(crate) fn label_of(operation: Option<Operation>) -> &'static str {
     }
 }
 
-/// The words of a table: the names of its two labels, and the words that each may have. No word needs to be escaped.
+/// Words of a table: the names of its two labels, and the values that each may have. No word needs escapes.
 #[derive(Clone, Copy)]
 pub(crate) struct Words {
     pub(crate) name: &'static str,
@@ -34,13 +34,13 @@ pub(crate) struct Words {
     pub(crate) columns: &'static [&'static str],
 }
 
-/// A count for each pair of words, row by row.
+/// Count for each pair of words, row by row.
 #[derive(Drop)]
 pub(crate) struct Table {
     cells: Vec<AtomicU64>,
 }
 
-/// The place of a word among some, or behind them.
+/// Returns the place of a word in a list, or the list's length if it isn't there.
 fn place_of(words: &[&'static str], word: &str) -> usize {
     for (place, other) in words.iter().enumerate() {
         if *other == word {
@@ -51,7 +51,7 @@ fn place_of(words: &[&'static str], word: &str) -> usize {
 }
 
 impl Rows {
-    /// Returns the word of a row, if there are as many.
+    /// Returns the word of a row, if there is such a row.
     fn at(self, place: usize) -> Option<&'static str> {
         match self {
             Rows::Words(words) => words.get(place).copied(),
@@ -63,7 +63,7 @@ impl Rows {
         }
     }
 
-    /// Returns how many there are.
+    /// Returns the number of rows.
     fn count(self) -> usize {
         match self {
             Rows::Words(words) => words.len(),
@@ -71,7 +71,7 @@ impl Rows {
         }
     }
 
-    /// Returns the row of a word, or the one behind them.
+    /// Returns the row of a word, or the number of rows if it has none.
     fn place_of(self, word: &str) -> usize {
         for place in 0..self.count() {
             if self.at(place) == Some(word) {
@@ -82,7 +82,7 @@ impl Rows {
     }
 }
 
-/// Adds the line of a pair of words.
+/// Adds the line of a pair of words to a page.
 fn put_line(
     words: &Words,
     page: &mut Vec<u8>,
@@ -105,7 +105,7 @@ fn put_line(
 }
 
 impl Table {
-    /// Nothing was counted of these words.
+    /// Makes a table of these words, with counts of 0.
     pub(crate) fn new(alloc: Global, words: &Words) -> Result<Table, Memory> {
         let mut cells = Vec::new(alloc);
         for _row in 0..words.rows.count() {
@@ -116,7 +116,7 @@ impl Table {
         Ok(Table { cells })
     }
 
-    /// The count of a pair of words, by their places.
+    /// Returns the count of a pair of words, by their places.
     fn cell(&self, words: &Words, row: usize, column: usize) -> Option<&AtomicU64> {
         let wide = words.columns.len();
         if column >= wide {
@@ -125,7 +125,7 @@ impl Table {
         self.cells.get(row.checked_mul(wide)?.checked_add(column)?)
     }
 
-    /// Counts one of a pair of words.
+    /// Adds one to the count of a pair of words.
     pub(crate) fn add(&self, words: &Words, row: &str, column: &str) {
         let row = words.rows.place_of(row);
         let column = place_of(words.columns, column);
@@ -134,7 +134,7 @@ impl Table {
         }
     }
 
-    /// Adds the lines of a row, of those pairs that were counted.
+    /// Adds the lines of a row to a page, for the pairs whose count isn't 0.
     fn put_row(
         &self,
         words: &Words,
@@ -154,7 +154,7 @@ impl Table {
         Ok(())
     }
 
-    /// Adds it as a measure.
+    /// Adds the table to a page, as a measure.
     pub(crate) fn put(&self, words: &Words, page: &mut Vec<u8>) -> Result<(), Memory> {
         describe(page, words.name, Kind::Counter, words.help)?;
         for place in 0..words.rows.count() {

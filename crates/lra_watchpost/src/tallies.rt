@@ -14,7 +14,7 @@ use std::sync::Arc;
 use std::sync::atomic::{AtomicU64, Ordering};
 use std::time::{Clock, Instant};
 
-/// The requests of services, by what they ask for and what they are answered.
+/// Requests of services, by what they ask for and the status code of the answer.
 const REQUESTS: Words = Words {
     name: "lra_requests_total",
     help: "Requests of services that were answered, by what they asked for and the status code.",
@@ -27,7 +27,7 @@ const REQUESTS: Words = Words {
     ],
 };
 
-/// The callbacks to members, by what they ask and what came of them.
+/// Callbacks to members, by what they ask and their outcome.
 const CALLBACKS: Words = Words {
     name: "lra_callbacks_total",
     help: "Callbacks to members that came to something, by what they ask and what it was.",
@@ -37,10 +37,10 @@ const CALLBACKS: Words = Words {
     columns: &["done", "accepted", "failed", "silent"],
 };
 
-/// The number of microseconds that a second has.
+/// Number of microseconds in a second.
 const SECOND: u64 = 1_000_000;
 
-/// The times that requests took.
+/// Times that requests took.
 const REQUEST_TIMES: Measured = Measured {
     name: "lra_request_seconds",
     help: "How long the coordinator took to answer a request of a service, without the wait for the disk.",
@@ -48,7 +48,7 @@ const REQUEST_TIMES: Measured = Measured {
     parts: SECOND,
 };
 
-/// The times that callbacks took.
+/// Times that callbacks took.
 const CALLBACK_TIMES: Measured = Measured {
     name: "lra_callback_seconds",
     help: "How long a callback took from when it was due until something came of it.",
@@ -56,7 +56,7 @@ const CALLBACK_TIMES: Measured = Measured {
     parts: SECOND,
 };
 
-/// The times that syncs took.
+/// Times that syncs took.
 const SYNC_TIMES: Measured = Measured {
     name: "lra_sync_seconds",
     help: "How long a sync of the disk took that kept something new.",
@@ -64,7 +64,7 @@ const SYNC_TIMES: Measured = Measured {
     parts: SECOND,
 };
 
-/// The numbers of commands that syncs kept.
+/// Numbers of commands that syncs made durable.
 const SYNC_WRITES: Measured = Measured {
     name: "lra_commands_per_sync",
     help: "How many commands that wrote something one sync kept. The first line of a journal counts as one.",
@@ -72,7 +72,7 @@ const SYNC_WRITES: Measured = Measured {
     parts: 1,
 };
 
-/// The tallies of a service while it runs.
+/// Tallies of a service while it runs.
 #[derive(Drop)]
 pub struct Tallies {
     requests: Table,
@@ -80,20 +80,20 @@ pub struct Tallies {
     callbacks: Table,
     callback_times: Histogram,
     denied: Denied,
-    /// The record that the disk takes down of its syncs, where operators come in.
+    /// Record of the disk's syncs, if there is an operators' server.
     syncs: Option<Arc<Syncs>>,
-    /// The milliseconds that a sync may take.
+    /// Number of milliseconds that a sync may take.
     sync_limit: u64,
-    /// The number behind that of the journal whose coordinator answered last that it has stopped, or 0.
+    /// Number plus 1 of the journal whose coordinator answered last that it has stopped, or 0.
     stopped: AtomicU64,
-    /// The numbers of workers and callback workers that have ended though the service goes on.
+    /// Numbers of workers and callback workers that have ended though the service goes on.
     lost_workers: AtomicU64,
     lost_callback_workers: AtomicU64,
-    /// The number behind that of the journal whose callbacks were noted last to stand still, or 0.
+    /// Number plus 1 of the journal whose callbacks were noted last to stand still, or 0.
     standing: AtomicU64,
 }
 
-/// The digits of a status code.
+/// Returns the digits of a status code, or `other` for one that has no column.
 fn code_word(status: StatusCode) -> &'static str {
     match status.as_u16() {
         200 => "200",
@@ -114,7 +114,7 @@ fn code_word(status: StatusCode) -> &'static str {
     }
 }
 
-/// The word for what came of a callback.
+/// Returns the word for the outcome of a callback.
 fn outcome_word(outcome: Outcome) -> &'static str {
     match outcome {
         Outcome::Done => "done",
@@ -124,13 +124,13 @@ fn outcome_word(outcome: Outcome) -> &'static str {
     }
 }
 
-/// Returns how many microseconds have passed since a moment, where that can be told.
+/// Returns how many microseconds have passed since a moment, if that is known and the clock can be read.
 fn micros_since<R: Clock>(rt: &R, began: Option<Instant>) -> Option<u64> {
     let passed = Instant::now(rt).ok()?.saturating_duration_since(began?);
     u64::try_from(passed.as_micros()).ok()
 }
 
-/// Makes the record that a disk takes down of its syncs from now on.
+/// Makes the record of a disk's syncs from now on.
 fn new_syncs(alloc: Global, stopwatch: Stopwatch) -> Result<Arc<Syncs>, Memory> {
     match Arc::new(alloc, Syncs::new(alloc, stopwatch)?) {
         Ok(syncs) => Ok(syncs),
@@ -141,7 +141,7 @@ fn new_syncs(alloc: Global, stopwatch: Stopwatch) -> Result<Arc<Syncs>, Memory> 
     }
 }
 
-/// The same, where operators come in.
+/// Makes the record of a disk's syncs from now on, if there is an operators' server.
 fn syncs_at(alloc: Global, post: Option<&Watchpost>) -> Result<Option<Arc<Syncs>>, Memory> {
     match post {
         Some(post) => Ok(Some(new_syncs(alloc, post.stopwatch())?)),
@@ -150,7 +150,8 @@ fn syncs_at(alloc: Global, post: Option<&Watchpost>) -> Result<Option<Arc<Syncs>
 }
 
 impl Tallies {
-    /// Nothing was, of a service where operators come in there, if any do, and a sync may take so many seconds.
+    /// Makes tallies of 0, for a service whose syncs may take so many seconds. The record of its syncs is kept only if
+    /// it has an operators' server.
     pub fn new(
         alloc: Global,
         post: Option<&Watchpost>,
@@ -171,7 +172,7 @@ impl Tallies {
         })
     }
 
-    /// Where the disk takes down its syncs, if anyone wants to know of them.
+    /// Returns the record of the disk's syncs, if there is one.
     pub fn syncs(&self) -> Option<Arc<Syncs>> {
         match &self.syncs {
             Some(syncs) => Arc::try_clone(syncs).ok(),
@@ -179,7 +180,7 @@ impl Tallies {
         }
     }
 
-    /// Returns how many milliseconds the sync that is under way has taken, or 0 where none is.
+    /// Returns how many milliseconds the sync under way has taken, or 0 if none is.
     pub fn sync_age(&self) -> u64 {
         match &self.syncs {
             Some(syncs) => syncs.age(),
@@ -192,18 +193,18 @@ impl Tallies {
         self.sync_limit
     }
 
-    /// A request was denied, for its key, its host or its origin.
+    /// Counts a request that was denied, for its key, its host or its origin.
     pub fn denied(&self, denial: Denial) {
         self.denied.add(denial);
     }
 
-    /// A journal's coordinator has stopped: nothing more is written to it.
+    /// Notes that a journal's coordinator has stopped: nothing more is written to the journal.
     pub fn stop(&self, instance: Instance) {
         let number = instance.number().saturating_add(1);
         self.stopped.store(number, Ordering::SeqCst);
     }
 
-    /// Returns whether it is known of a journal's coordinator that it has stopped.
+    /// Returns whether a journal's coordinator is the one that was noted last to have stopped.
     pub fn has_stopped(&self, instance: Instance) -> bool {
         self.stopped.load(Ordering::SeqCst) == instance.number().saturating_add(1)
     }
@@ -218,29 +219,29 @@ impl Tallies {
         self.lost_callback_workers.fetch_add(1, Ordering::SeqCst);
     }
 
-    /// Notes that a callback worker stands again in the place of one that was lost.
+    /// Notes that a callback worker has replaced one that was lost.
     pub fn regain_callback_worker(&self) {
         self.lost_callback_workers.fetch_sub(1, Ordering::SeqCst);
     }
 
-    /// Notes that a callback worker is lost, and that a journal's callbacks stand still with it.
+    /// Notes that a callback worker is lost, and that a journal's callbacks stand still without it.
     pub fn stand(&self, journal: Instance) {
         let number = journal.number().saturating_add(1);
         self.standing.store(number, Ordering::SeqCst);
         self.lose_callback_worker();
     }
 
-    /// Notes that a journal's callbacks go on, which stood still.
+    /// Notes that a journal's callbacks, which stood still, go on.
     pub fn go_on(&self, journal: Instance) {
         let number = journal.number().saturating_add(1);
-        // Where those of another were noted since, these are named.
+        // If another journal was noted since, it stays the one that is reported.
         let _ = self
             .standing
             .compare_exchange(number, 0, Ordering::SeqCst, Ordering::SeqCst);
         self.regain_callback_worker();
     }
 
-    /// Returns the journal whose callbacks were noted last to stand still, if any do.
+    /// Returns the journal whose callbacks were noted last to stand still, unless they have gone on since.
     pub fn standing(&self) -> Option<Instance> {
         let number = self.standing.load(Ordering::SeqCst);
         Instance::new(number.checked_sub(1)?)
@@ -251,12 +252,12 @@ impl Tallies {
         self.lost_workers.load(Ordering::SeqCst)
     }
 
-    /// Returns how many callback workers have.
+    /// Returns how many callback workers have ended though the service goes on.
     pub fn lost_callback_workers(&self) -> u64 {
         self.lost_callback_workers.load(Ordering::SeqCst)
     }
 
-    /// A request was answered that was begun with at that moment.
+    /// Tallies an answered request, and its time since the moment at which its handling began.
     pub(crate) fn add_request<R: Clock>(
         &self,
         rt: &R,
@@ -271,7 +272,7 @@ impl Tallies {
         }
     }
 
-    /// Something came of a callback that was begun with at that moment.
+    /// Tallies the outcome of a callback, and its time since the moment at which it began.
     pub(crate) fn add_callback<R: Clock>(
         &self,
         rt: &R,
@@ -286,7 +287,7 @@ impl Tallies {
         }
     }
 
-    /// Adds what the disk took down.
+    /// Adds the record of the disk's syncs to a page, if there is one.
     fn put_syncs(&self, page: &mut Vec<u8>) -> Result<(), Memory> {
         match &self.syncs {
             Some(syncs) => {
@@ -297,7 +298,7 @@ impl Tallies {
         }
     }
 
-    /// Adds all of it, as measures in the text format 0.0.4 of Prometheus.
+    /// Adds all tallies to a page, as measures in the text format 0.0.4 of Prometheus.
     pub fn put(&self, page: &mut Vec<u8>) -> Result<(), Memory> {
         self.requests.put(&REQUESTS, page)?;
         put_histogram(page, &REQUEST_TIMES, &self.request_times)?;

@@ -1,4 +1,4 @@
-//! A word that nobody can guess.
+//! A token that no attacker can guess.
 
 use crate::fault::PortFault;
 use std::alloc::Global;
@@ -6,10 +6,10 @@ use std::fs::File;
 use std::io::Read;
 use std::rt::Files;
 
-/// The number of random bytes that it is made of.
+/// Number of random bytes in a token.
 const BYTES: usize = 16;
 
-/// Random bytes of the system's.
+/// Reads random bytes from the system.
 fn random<R: Files<File = File>>(rt: &R) -> Option<[u8; BYTES]> {
     let mut piece = [0u8; BYTES];
     let mut file = File::open(rt, "/dev/urandom").ok()?;
@@ -22,7 +22,7 @@ fn random<R: Files<File = File>>(rt: &R) -> Option<[u8; BYTES]> {
     }
 }
 
-/// A word that nobody can guess, in the digits of base sixteen.
+/// Makes a token that no attacker can guess, in hexadecimal digits.
 pub(crate) fn token<R: Files<File = File>>(rt: &R, alloc: Global) -> Result<String, PortFault> {
     let Some(piece) = random(rt) else {
         return Err(PortFault::NoToken);

@@ -6,24 +6,24 @@ use std::io::{ErrorKind, Read, Write};
 use std::net::{Shutdown, TcpStream};
 use std::time::Instant;
 
-/// The number of bytes that are read at once.
+/// Largest number of bytes that one read takes.
 const PIECE: usize = 4_096;
 
-/// The stage of a visit.
+/// Stage of a visit.
 #[derive(Clone, Copy, Debug, PartialEq, Eq)]
 enum Stage {
-    /// The request comes.
+    /// The client sends its request.
     Asks,
     /// The request is whole, and isn't answered yet.
     Waits,
-    /// The reply goes.
+    /// The server sends its reply.
     IsTold,
-    /// The reply has gone, and what still comes is thrown away: a stream that is closed before it is read out can lose
-    /// its reply.
+    /// The reply has gone, and bytes that still come are thrown away. A stream that is closed before all of it is read
+    /// can lose its reply.
     Leaves,
 }
 
-/// The outcome of a look at a visitor.
+/// Outcome of one read or write of a visitor.
 #[derive(Clone, Copy, Debug, PartialEq, Eq)]
 pub(crate) enum Step {
     /// Bytes went or came.
@@ -34,11 +34,11 @@ pub(crate) enum Step {
     Gone,
 }
 
-/// A connection of an operator, with what came and what goes.
+/// Connection of an operator, with the bytes that came and those that go.
 #[derive(Drop)]
 pub(crate) struct Visitor {
     stream: TcpStream,
-    /// When the visit ends at the latest.
+    /// Moment at which the visit ends at the latest.
     pub(crate) end: Instant,
     pub(crate) came: Vec<u8>,
     pub(crate) reply: Vec<u8>,
@@ -46,7 +46,7 @@ pub(crate) struct Visitor {
     stage: Stage,
 }
 
-/// Returns what comes of bytes that went or came, or of a fault.
+/// Returns the outcome of a read or a write, from its number of bytes or its fault.
 fn step_of(moved: std::io::Result<usize>) -> Step {
     match moved {
         Ok(0) => Step::Gone,
@@ -59,7 +59,7 @@ fn step_of(moved: std::io::Result<usize>) -> Step {
 }
 
 impl Visitor {
-    /// A connection that has just come.
+    /// Makes the visitor of a connection that has just come.
     pub(crate) fn new(alloc: Global, stream: TcpStream, end: Instant) -> Visitor {
         Visitor {
             stream,
@@ -71,17 +71,17 @@ impl Visitor {
         }
     }
 
-    /// Returns whether its request is whole, and isn't answered yet.
+    /// Returns whether the visitor's request is whole, and isn't answered yet.
     pub(crate) fn is_waiting(&self) -> bool {
         self.stage == Stage::Waits
     }
 
-    /// Its reply is there.
+    /// Notes that the visitor's reply is there.
     pub(crate) fn tell(&mut self) {
         self.stage = Stage::IsTold;
     }
 
-    /// Takes what came of the request.
+    /// Adds bytes to those that came of the request.
     fn take(&mut self, alloc: Global, bytes: &[u8]) -> Step {
         if self.came.extend_from_slice(bytes).is_err() {
             return Step::Gone;
@@ -92,7 +92,7 @@ impl Visitor {
         Step::Moved
     }
 
-    /// Reads what comes of the request.
+    /// Reads bytes of the request.
     fn hear(&mut self, alloc: Global) -> Step {
         let mut piece = [0u8; PIECE];
         let read = self.stream.read(&mut piece);
@@ -102,7 +102,7 @@ impl Visitor {
         }
     }
 
-    /// Writes what is left of the reply.
+    /// Writes what is left of the reply. Once nothing is, the stream is shut down for writes.
     fn speak(&mut self) -> Step {
         let rest = self.reply.as_slice().get(self.sent..).unwrap_or(&[]);
         if rest.is_empty() {
@@ -117,7 +117,7 @@ impl Visitor {
         step_of(written)
     }
 
-    /// Throws away what comes.
+    /// Reads bytes and throws them away.
     fn drain(&mut self) -> Step {
         let mut piece = [0u8; PIECE];
         step_of(self.stream.read(&mut piece))

@@ -1,4 +1,4 @@
-//! The figures that the system tells of the process.
+//! The process statistics that the system reports.
 
 ghost use Rattle.std.specs.Prelude.{◌≡◌, None};
 
@@ -6,24 +6,24 @@ use std::fs::File;
 use std::os::unix::fs::FileExt;
 use std::rt::Files;
 
-/// The number of bytes that a page of memory has.
+/// Number of bytes in a page of memory.
 const PAGE: u64 = 4_096;
 
-/// The number of bytes of a file of the system's that are read.
+/// Number of bytes that are read of a file of the system.
 const MOST: usize = 1_024;
 
-/// The figures that the system tells of the process.
+/// Process statistics that the system reports.
 #[derive(Clone, Copy, Debug, PartialEq, Eq)]
 pub struct Vitals {
-    /// The number of bytes of memory that it has, in all and in place.
+    /// Numbers of bytes of memory that the process has: of virtual memory, and of resident memory.
     pub virtual_bytes: Option<u64>,
     pub resident_bytes: Option<u64>,
-    /// The processor time that it took, in hundredths of a second.
+    /// Processor time that the process took, in hundredths of a second.
     pub ticks: Option<u64>,
 }
 
 impl Vitals {
-    /// Nothing is told.
+    /// Makes statistics of which none is known.
     pub fn none() -> Vitals
         ensures memory { (result.virtual_bytes ≡ None) × (result.resident_bytes ≡ None) }
         ensures time { result.ticks ≡ None }
@@ -36,31 +36,31 @@ impl Vitals {
     }
 }
 
-/// The files in which the system tells of the process, where they can be read. They stay open, so that who reads them
-/// later needs no more than them.
+/// Files that process statistics are read from, where they can be opened. They stay open, so that a thread that reads
+/// them later needs no other files.
 #[derive(Drop)]
 pub(crate) struct Gauges {
     memory: Option<File>,
     time: Option<File>,
 }
 
-/// Reads a piece at once of a file of the system's, which tells anew at each read from its start, and returns its
-/// length.
+/// Reads a piece of a file of the system at once, and returns its length. The system writes the file's contents anew at
+/// each read from its start.
 fn read_file(file: Option<&File>, piece: &mut [u8; MOST]) -> Option<usize> {
     file?.read_at(piece, 0).ok()
 }
 
-/// The number at a place among the words of a text.
+/// Returns the number at a place among the words of a text.
 fn word_at(text: &str, place: usize) -> Option<u64> {
     text.split(' ').nth(place)?.parse::<u64>().ok()
 }
 
-/// A number of pages, in bytes.
+/// Returns the number of bytes of the number of pages at a place in a text.
 fn pages_at(text: &str, place: usize) -> Option<u64> {
     word_at(text, place)?.checked_mul(PAGE)
 }
 
-/// The bytes of memory, in all and in place.
+/// Returns the numbers of bytes of virtual and of resident memory.
 fn memory(file: Option<&File>) -> Option<(Option<u64>, Option<u64>)> {
     let mut piece = [0u8; MOST];
     let count = read_file(file, &mut piece)?;
@@ -68,7 +68,7 @@ fn memory(file: Option<&File>) -> Option<(Option<u64>, Option<u64>)> {
     Some((pages_at(text, 0), pages_at(text, 1)))
 }
 
-/// The processor time that was taken, in the system's ticks.
+/// Returns the processor time that was taken, in the system's ticks.
 fn ticks(file: Option<&File>) -> Option<u64> {
     let mut piece = [0u8; MOST];
     let count = read_file(file, &mut piece)?;
@@ -78,7 +78,7 @@ fn ticks(file: Option<&File>) -> Option<u64> {
 }
 
 impl Gauges {
-    /// Those of this process.
+    /// Opens the files of this process.
     pub(crate) fn open<R: Files<File = File>>(rt: &R) -> Gauges {
         Gauges {
             memory: File::open(rt, "/proc/self/statm").ok(),
@@ -86,7 +86,7 @@ impl Gauges {
         }
     }
 
-    /// Reads what the system tells now.
+    /// Reads the process statistics.
     pub(crate) fn read(&self) -> Vitals {
         let (virtual_bytes, resident_bytes) = memory(self.memory.as_ref()).unwrap_or((None, None));
         Vitals {

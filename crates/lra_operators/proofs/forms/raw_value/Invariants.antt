@@ -5,7 +5,7 @@ use Rattle.form_urlencoded.specs.Form.{raw_pairs}
 use Rattle.form_urlencoded.specs.Parse.{raw_pairs_left}
 use Rattle.lra_operators.proofs.forms.raw_value.Given as goal
 
--- what is left to look at gives what all gives
+-- the fields that are left give what all fields give
 abbrev pub invariant-loop-key : goal.invariant-loop-key
 invariant-loop-key l = find (λ p. bytes_eq p.0 l.name) (raw_pairs_left l.key-iterator)
     ≡ find (λ p. bytes_eq p.0 l.name) (raw_pairs l.form)
