@@ -1,4 +1,4 @@
--- What comes of an errand's callback.
+-- Outcomes that come of an errand's callback.
 use Rattle.std.proofs.Common.{◌≡◌, ℕ, Bool, true, List, Option, Some, None, inl, inr, refl, ap, ◌∙◌, subst}
 use Rattle.std.specs.Prelude.{Result, option_map, unwrap_or, IfSome, IsTrue}
 use Rattle.std.specs.Option.{ForSome}
@@ -17,12 +17,12 @@ use Rattle.lra_callbacks.specs.Held.{errand_at}
 use Rattle.lra_callbacks.specs.inner.Attempts.{IsOfSame}
 
 module _ (keeps : ℕ → Bool) where
-  -- of any errand nothing may come
+  -- any errand may have silence as its outcome
   pub silence_comes : (errand : Option Handed) → IfSome errand (λ h. MayCome keeps h.1 h.0.ask h.0.kind Silent)
   silence_comes None = tt
   silence_comes (Some e) = inr refl
 
-  -- what a callback that had leave came to may come of its errand
+  -- the outcome of a callback that might be sent may come of its errand
   pub outcome_comes : (kept : ℕ) (c : Carried) (errand : Option Handed) (r : Option Outcome)
       → ForSome errand (λ h. MayLeave keeps h.1 kept) → ForSome errand (λ h. IsFor c h.0) → IsCarried c
       → r ≡ option_map (λ (told : Result Outcome CallFault). result_unwrap_or told Silent) c.came
@@ -58,14 +58,14 @@ module _ (keeps : ℕ → Bool) where
           same : Some o ≡ Some (result_unwrap_or told Silent) → o ≡ result_unwrap_or told Silent
           same h = cc
 
--- what comes of an errand's own journal comes of some journal
+-- an outcome that comes of an errand's own journal comes of some journal
 pub own_comes : (keeps : ℕ → ℕ → Bool) (instance : ℕ) (r : Option (Asking × Outcome)) (errand : Option Handed)
     → IfSome r (λ came. ForSome errand (λ h. MayCome (keeps instance) h.1 came.0.ask came.0.kind came.1))
     → IfSome r (λ came. ForSome errand (λ h. OfGroup keeps h.1 came.0.ask came.0.kind came.1))
 own_comes keeps instance None errand h = tt
 own_comes keeps instance (Some came) errand h = λ x e. record { instance = instance; came = h x e }
 
--- and so of some position
+-- and so it comes of some position
 pub comes_of : (keeps : ℕ → ℕ → Bool) (old mid new : List (Option Handed)) (r : Option (Asking × Outcome)) → mid ≡ old
     → IfSome r (λ came. (n : ℕ) × Gains (errand_at new) (errand_at mid) (came.0, n)
     × OfGroup keeps n came.0.ask came.0.kind came.1)
@@ -78,7 +78,7 @@ comes_of keeps old mid new (Some came) e (n, gains, of) = (
   record { position = n; of = of },
 )
 
--- moving bytes changes nothing of what is asked
+-- moving bytes changes nothing of the request
 pub same_of : (c : Carried) → IsOfSame c c
 same_of c = record { kind = refl; direction = refl; request = refl }
 

@@ -1,4 +1,4 @@
--- Which errand stands at each place of a slab.
+-- Errand in each slot of a slab.
 use Rattle.std.proofs.Common.{◌≡◌, ◌≢◌, ℕ, zero, suc, Bool, true, false, List, [], ◌∷◌, Option, Some, None, refl, ap}
 use Rattle.std.proofs.Common.{◌∙◌, sym, subst}
 use Rattle.std.specs.Prelude.{◌==◌, map, slice_set, slice_index_or, option_map, IfSome, IfNone}
@@ -11,21 +11,21 @@ use Rattle.lra_callbacks.specs.Held.{errand_at}
 use Rattle.lra_commands.specs.Errands.{Asking}
 
 module _ {X : Type 0} (of : Option X → Option Handed) where
-  -- a place is changed, and its errand stays
+  -- a slot is changed, and its errand stays
   pub same_errands : (slots : List (Option X)) (key : ℕ) (slot : Option X)
       → of slot ≡ of (slice_index_or slots key None) → map of (slice_set slots key slot) ≡ map of slots
   same_errands [] key slot h = refl
   same_errands (x ∷ xs) zero slot h = ap (λ (o : Option Handed). o ∷ map of xs) h
   same_errands (x ∷ xs) (suc key) slot h = ap (λ (os : List (Option Handed)). of x ∷ os) (same_errands xs key slot h)
 
-  -- the errand at a place
+  -- the errand in a slot
   pub at : of None ≡ None → (slots : List (Option X)) (key : ℕ)
       → slice_index_or (map of slots) key None ≡ of (slice_index_or slots key None)
   at none [] key = sym none
   at none (x ∷ xs) zero = refl
   at none (x ∷ xs) (suc key) = at none xs key
 
-  -- a place that was free has an errand, and the others are as they were
+  -- a slot that was free has an errand, and the others are as they were
   pub errand_gained : of None ≡ None → (old new : List (Option X)) (key : ℕ) (slot : Option X) (e : Handed)
       → slice_index_or old key None ≡ None → slice_index_or new key None ≡ slot → of slot ≡ Some e
       → ((other : ℕ) → other ≢ key → slice_index_or new other None ≡ slice_index_or old other None)
@@ -37,7 +37,7 @@ module _ {X : Type 0} (of : Option X → Option Handed) where
     others = λ other apart. at none new other ∙ (ap of (others other apart) ∙ sym (at none old other));
   }
 
-  -- a place is given up at which no errand is
+  -- a slot without an errand is given up
   pub none_lost : of None ≡ None → (old new : List (Option X)) (key : ℕ) (slot : Option X)
       → slice_index_or old key None ≡ slot → of slot ≡ None → slice_index_or new key None ≡ None
       → ((other : ℕ) → other ≢ key → slice_index_or new other None ≡ slice_index_or old other None)
@@ -62,7 +62,7 @@ module _ {X : Type 0} where
   kept_errands slots key old new f there same = same_errands (λ (slot : Option X). option_and_then f slot) slots key
       (Some new) (same ∙ ap (λ (slot : Option X). option_and_then f slot) there)
 
-  -- a call is taken in
+  -- a call is accepted
   pub taken_in : (old mid new : List (Option X)) (key : ℕ) (call : X) (e : Handed) (f : X → Option Handed)
       (now : List (Option Handed)) → map (λ (slot : Option X). option_and_then f slot) old ≡ now → mid ≡ old
       → slice_index_or mid key None ≡ None → slice_index_or new key None ≡ Some call
@@ -75,7 +75,7 @@ module _ {X : Type 0} where
       (ap (λ (s : List (Option X)). slice_index_or s key None) (sym same) ∙ free) here is
       (λ other apart. others other apart ∙ ap (λ (s : List (Option X)). slice_index_or s other None) same))
 
-  -- a call is given back, with what came of it
+  -- a call is given back, with its outcome
   pub given_back : (old new : List (Option X)) (key : ℕ) (call : X) (f : X → Option Handed) (now : List (Option Handed))
       (r : Option (Asking × Outcome)) (Q : ℕ → Asking × Outcome → Type 0)
       → map (λ (slot : Option X). option_and_then f slot) old ≡ now → Some call ≡ slice_index_or old key None
@@ -108,7 +108,7 @@ module _ {X : Type 0} where
             q (a, n) g,
           )
 
-  -- a call without an errand is let go of
+  -- a call without an errand is dropped
   pub let_go : (old new : List (Option X)) (key : ℕ) (call : X) (f : X → Option Handed) (now : List (Option Handed))
       (r : Option (Asking × Outcome))
       → map (λ (slot : Option X). option_and_then f slot) old ≡ now → Some call ≡ slice_index_or old key None

@@ -1,4 +1,4 @@
--- What may come of an errand.
+-- Outcomes that an errand may have.
 use Rattle.std.specs.Prelude.{◌≡◌, ◌⊎◌, ℕ, Bool, true, Some, Result, refl}
 use Rattle.std.specs.Result.{result_unwrap_or}
 use Rattle.std.proofs.Common.{ap, inl, inr}
@@ -13,14 +13,14 @@ use Rattle.lra_courier.specs.Callbacks.{calling_of, request_bytes}
 use Rattle.lra_courier.specs.Carried.{Carried, IsCarried}
 use Rattle.lra_durable.specs.Leaves.{MayLeave}
 
--- what was carried is the callback of an errand
+-- the callback exchange is that of an errand
 pub record IsFor (carried : Carried) (errand : Asking) : Type 0 where
   pub kind : carried.kind ≡ errand.kind
   pub direction : carried.direction ≡ errand.direction
   pub request : carried.request ≡ request_bytes (calling_of errand)
 
--- An outcome came of a callback for an ask of this number and kind: the request left once the journal was durable up to
--- the errand's position, and this is what the callback came to.
+-- An outcome came of a callback for an ask of this number and kind: the request was sent once the journal was durable
+-- up to the errand's position, and this is the callback's outcome.
 pub record Comes (keeps : ℕ → Bool) (position ask : ℕ) (kind : AskKind) (outcome : Outcome) : Type 0 where
   pub kept : ℕ
   pub leave : MayLeave keeps position kept
@@ -35,16 +35,16 @@ pub record Comes (keeps : ℕ → Bool) (position ask : ℕ) (kind : AskKind) (o
   pub as_told : outcome ≡ result_unwrap_or told Silent
   pub suits : outcome_suits kind outcome ≡ true
 
--- it came of such a callback, or it is silence
+-- an outcome came of such a callback, or it is silence
 abbrev pub MayCome : (ℕ → Bool) → ℕ → ℕ → AskKind → Outcome → Type 0
 MayCome keeps position ask kind outcome = Comes keeps position ask kind outcome ⊎ (outcome ≡ Silent)
 
--- the same of some journal of a group
+-- the same for some journal of a group
 pub record OfGroup (keeps : ℕ → ℕ → Bool) (position ask : ℕ) (kind : AskKind) (outcome : Outcome) : Type 0 where
   pub instance : ℕ
   pub came : MayCome (keeps instance) position ask kind outcome
 
--- and of some position
+-- the same for some position
 pub record MayComeOf (keeps : ℕ → ℕ → Bool) (ask : ℕ) (kind : AskKind) (outcome : Outcome) : Type 0 where
   pub position : ℕ
   pub of : OfGroup keeps position ask kind outcome
@@ -57,17 +57,17 @@ silence_suits ask.Status outcome e = refl
 silence_suits ask.Forget outcome e = ap (λ (o : Outcome). outcome_suits ask.Forget o) e
 silence_suits ask.After outcome e = ap (λ (o : Outcome). outcome_suits ask.After o) e
 
--- what may come suits the kind
+-- an outcome that may come suits the kind of its ask
 coming_suits : (keeps : ℕ → Bool) (position ask : ℕ) (kind : AskKind) (outcome : Outcome)
     → MayCome keeps position ask kind outcome → outcome_suits kind outcome ≡ true
 coming_suits keeps position ask kind outcome (inl came) = came.suits
 coming_suits keeps position ask kind outcome (inr silent) = silence_suits kind outcome silent
 
--- what may come of an ask suits its kind
+-- an outcome that may come of an ask suits its kind, whatever its journal and position are
 pub coming_of_suits : (keeps : ℕ → ℕ → Bool) (ask : ℕ) (kind : AskKind) (outcome : Outcome)
     → MayComeOf keeps ask kind outcome → outcome_suits kind outcome ≡ true
 coming_of_suits keeps ask kind outcome c = coming_suits (keeps c.of.instance) c.position ask kind outcome c.of.came
 
--- of each ask nothing may come
+-- each ask may have silence as its outcome
 pub silence_comes_of : (keeps : ℕ → ℕ → Bool) (ask : ℕ) (kind : AskKind) → MayComeOf keeps ask kind Silent
 silence_comes_of keeps ask kind = record { position = 0; of = record { instance = 0; came = inr refl } }

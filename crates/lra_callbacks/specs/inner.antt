@@ -1,4 +1,4 @@
--- Words that private functions and proofs alone use.
+-- Definitions that only private functions and proofs use.
 pub mod Attempts
 pub mod Ends
 pub mod Quota

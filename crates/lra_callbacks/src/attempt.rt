@@ -1,4 +1,4 @@
-//! An errand from when it is taken until something has come of it.
+//! Attempt of an errand, from when the errand is accepted until it has an outcome.
 
 ghost use Rattle.std.specs.Global.{Global};
 ghost use Rattle.std.specs.Prelude.{◌≡◌, Some, None, IfOk, IfSome, String, option_map, string_bytes};
@@ -21,7 +21,7 @@ use std::io::{Read, Write};
 use std::marker::{Model, PhantomData};
 use std::sync::Wait;
 
-/// An errand that is held, and its position: where it is let go of, it is discarded.
+/// Errand that is held, and its position. The errand is discarded when this is dropped.
 pub(crate) struct Held {
     errand: Option<Errand>,
     position: u64,
@@ -65,7 +65,7 @@ impl Held {
         self.errand.as_ref()
     }
 
-    /// Returns its position.
+    /// Returns the errand's position.
     fn position(&self) -> u64
         ensures { ForSome self.now (λ handed. result ≡ handed.1) }
     {
@@ -83,26 +83,26 @@ impl Held {
     }
 }
 
-/// Leave of a callback to go out.
+/// Decision on whether a callback may be sent.
 #[derive(Debug, Drop)]
 pub(crate) enum Leave {
-    /// To this host and port.
+    /// It may be sent, to this host and port.
     Now(String),
-    /// Once its journal is durable up to the errand's position.
+    /// It may be sent once its journal is durable up to the errand's position.
     Later,
-    /// A journal has failed, or there is no request.
+    /// It may not be sent: a journal has failed, or there is no request.
     Never,
 }
 
-/// A callback that has leave: so many bytes of the journal were durable when it began.
+/// Callback that may be sent, and the number of bytes of the journal that were durable when it began.
 #[derive(Drop)]
 pub(crate) struct Flight {
     carrying: Carrying,
     kept: u64,
 }
 
-/// The callback of an errand, and the host and port that are asked. Nothing, where it has no address or memory is
-/// refused.
+/// Returns the callback of an errand, and the host and port that it asks. Returns `None` if the errand has no address
+/// or memory is refused.
 fn callback_of(alloc: Global, errand: &Errand) -> Option<(Carrying, String)>
     ensures { IfSome result (λ made. Goes made.0 made.1 errand.now) }
 {
@@ -119,11 +119,11 @@ fn callback_of(alloc: Global, errand: &Errand) -> Option<(Carrying, String)>
     }
 }
 
-/// An errand that was taken. Its request is made once the journal of its instance is durable up to its position.
+/// Errand that was accepted. Its request is made once the journal of its instance is durable up to its position.
 #[derive(Drop)]
 pub(crate) struct Attempt<G: SyncGroup> {
     errand: Held,
-    /// The journal that its ask stands in.
+    /// Instance of the journal that has its ask.
     instance: Instance,
     flight: Option<Flight>,
     group: PhantomData<G>,
@@ -132,7 +132,7 @@ pub(crate) struct Attempt<G: SyncGroup> {
 }
 
 impl<G: SyncGroup> Attempt<G> {
-    /// An errand that is taken now, whose ask stands in the journal of that instance.
+    /// Makes the attempt of an errand whose ask is in the journal of that instance.
     pub(crate) fn new(errand: Errand, instance: Instance, position: u64) -> Attempt<G>
         ensures errand { result.errand ≡ Some (errand, position) }
         ensures journal { result.instance ≡ instance }
@@ -145,22 +145,22 @@ impl<G: SyncGroup> Attempt<G> {
         }
     }
 
-    /// The errand.
+    /// Returns the errand.
     pub(crate) fn errand(&self) -> Option<&Errand>
         ensures { option_map (λ errand. errand.now) result ≡ option_map (λ handed. handed.0) self.now.errand }
     {
         self.errand.get()
     }
 
-    /// Returns the position up to which its journal has to be durable before it leaves.
+    /// Returns the position up to which the journal has to be durable before the callback is sent.
     pub(crate) fn position(&self) -> u64
         ensures { ForSome self.now.errand (λ handed. result ≡ handed.1) }
     {
         self.errand.position()
     }
 
-    /// The callback of the errand, and the host and port that are asked. Nothing, where it has no address or memory is
-    /// refused.
+    /// Returns the callback of the errand, and the host and port that it asks. Returns `None` if the errand has no
+    /// address or memory is refused.
     fn callback(&self, alloc: Global) -> Option<(Carrying, String)>
         ensures { IfSome result (λ made. ForSome self.now.errand (λ h. Goes made.0 made.1 h.0)) }
     {
@@ -170,7 +170,8 @@ impl<G: SyncGroup> Attempt<G> {
         }
     }
 
-    /// Makes the callback, where it may leave, and tells the host and port of its errand's address.
+    /// Makes the callback if it may be sent. Returns whether it may, and if so, the host and port of the errand's
+    /// address.
     pub(crate) fn begin<R: Wait>(&mut self, rt: &R, alloc: Global, group: &G) -> Leave
         ensures errand { self.new.errand ≡ self.old.errand }
         ensures journal { self.new.instance ≡ self.old.instance }
@@ -203,7 +204,7 @@ impl<G: SyncGroup> Attempt<G> {
         }
     }
 
-    /// Returns the outcome of the callback: silence, where nothing has come of it.
+    /// Returns the outcome of the callback: silence if it has none.
     fn outcome(&self) -> Outcome
         ensures may { IfSome self.now.errand (λ h. MayCome (G.keeps self.now.instance) h.1 h.0.ask h.0.kind result) }
         ensures told { ForSome self.now.flight (λ f. result ≡ outcome_of f.carrying) }
@@ -215,8 +216,8 @@ impl<G: SyncGroup> Attempt<G> {
         flight.carrying.outcome().unwrap_or(Outcome::Silent)
     }
 
-    /// Returns what is told of it where it ended so, unless it brought its member further. Where memory is refused
-    /// nothing is known.
+    /// Returns the reply that is reported for this end of the callback, or `None` if the callback brought its member
+    /// further. Fails if memory is refused.
     pub(crate) fn reply(&self, end: End) -> Result<Option<Reply>, Memory>
         ensures { IfOk result (λ reply. Replies end self.now.flight reply) }
     {
@@ -229,11 +230,11 @@ impl<G: SyncGroup> Attempt<G> {
         }
     }
 
-    /// The errand, and what has come of it.
+    /// Returns the errand, and the outcome of its callback.
     pub(crate) fn finish(self) -> Option<(Errand, Outcome)>
         ensures errand { option_map (λ came. came.0) result ≡ option_map (λ handed. handed.0) self.errand }
-        // What isn't silence comes only of a request that left once the errand's own journal was durable up to its own
-        // position.
+        // An outcome other than silence comes only from a request that was sent once the errand's own journal was
+        // durable up to its own position.
         ensures came { IfSome result (λ came. ForSome self.errand
             (λ h. MayCome (G.keeps self.instance) h.1 came.0.ask came.0.kind came.1)) }
         ensures told { IfSome result (λ came. ForSome self.flight (λ f. came.1 ≡ outcome_of f.carrying)) }

@@ -1,32 +1,32 @@
-//! Names of hosts, and what is known of each.
+//! DNS cache: names of hosts, and what is known of each.
 
 use std::alloc::Global;
 use std::collections::{BTreeMap, VecDeque};
 use std::net::SocketAddr;
 
-/// Number of milliseconds that addresses count once they were found.
+/// Number of milliseconds that addresses are valid after the look-up that found them.
 const FOUND_MS: u64 = 30_000;
 
-/// Number of milliseconds that it counts that none were found.
+/// Number of milliseconds that the result of a look-up is valid that found no address.
 const MISSED_MS: u64 = 5_000;
 
-/// Largest number of names that are kept.
+/// Largest number of names that the cache holds.
 const MOST_NAMES: usize = 4_096;
 
-/// Knowledge of a name at a moment.
+/// State of a name in the cache at a moment.
 #[derive(Drop)]
 pub(crate) enum Found {
-    /// Its addresses, and until when they count.
+    /// Its addresses, and the moment until which they are valid.
     Known(Vec<SocketAddr>, u64),
-    /// None were found, or it can't be asked for.
+    /// The look-up found no address, or there is no room or memory for the name.
     Missed,
-    /// It is being looked up.
+    /// Its look-up was requested before, and hasn't ended.
     Pending,
-    /// It is to be looked up from now on.
+    /// Its look-up was requested just now.
     Asked,
 }
 
-/// Entry of one name. None of its addresses are known while it is looked up.
+/// Entry of one name. It has no addresses while the name is looked up.
 #[derive(Drop)]
 struct Entry {
     addresses: Vec<SocketAddr>,
@@ -34,7 +34,7 @@ struct Entry {
     is_asked: bool,
 }
 
-/// Names with their addresses, and those that are to be looked up.
+/// DNS cache: names with their addresses, and a queue of the names to look up.
 #[derive(Drop)]
 pub(crate) struct Book {
     entries: BTreeMap<String, Entry>,
@@ -51,7 +51,7 @@ impl Book {
         }
     }
 
-    /// Returns what is known of a name at a moment, and asks for what isn't.
+    /// Returns what is known of a name at a moment. Requests the look-up of the name if nothing is.
     pub(crate) fn find(&mut self, alloc: Global, name: &str, now: u64) -> Found {
         match self.entries.get(name) {
             Some(entry) if entry.is_asked => Found::Pending,
@@ -60,7 +60,7 @@ impl Book {
         }
     }
 
-    /// Asks for a name, where it can be kept.
+    /// Requests the look-up of a name if there is room for the name.
     fn ask(&mut self, alloc: Global, name: &str, now: u64) -> Found {
         if self.entries.len() >= MOST_NAMES {
             self.entries
@@ -85,12 +85,12 @@ impl Book {
         self.asked.push_back(name).ok()
     }
 
-    /// Tells whether there is nothing to look up yet.
+    /// Returns whether a resolver has to wait: no name is queued, and the cache isn't closed.
     pub(crate) fn is_idle(&self) -> bool {
         self.asked.is_empty() && !self.is_closed
     }
 
-    /// The name that is to be looked up next, unless nothing is any more.
+    /// Takes the next name to look up from the queue. Returns `None` if there is none, or if the cache is closed.
     pub(crate) fn next(&mut self) -> Option<String> {
         if self.is_closed {
             return None;
@@ -98,7 +98,7 @@ impl Book {
         self.asked.pop_front()
     }
 
-    /// Notes what a look-up found that ended at this moment.
+    /// Stores the result of a look-up that ended at this moment.
     pub(crate) fn tell(&mut self, name: &str, found: Option<Vec<SocketAddr>>, now: u64) {
         let Some(entry) = self.entries.get_mut(name) else {
             return;
@@ -116,13 +116,13 @@ impl Book {
         }
     }
 
-    /// Nothing more is looked up.
+    /// Closes the cache: nothing more is looked up.
     pub(crate) fn close(&mut self) {
         self.is_closed = true;
     }
 }
 
-/// Returns what an entry says.
+/// Returns the state of an entry whose look-up has ended.
 fn known(alloc: Global, entry: &Entry) -> Found {
     if entry.addresses.is_empty() {
         return Found::Missed;

@@ -1,4 +1,4 @@
-//! An errand with its socket.
+//! Errand with its socket.
 
 ghost use Rattle.std.specs.Global.{Global};
 ghost use Rattle.std.specs.Prelude.{◌≡◌, Some, IfOk, IfSome, OnOk, IsTrue, String, option_map, string_bytes};
@@ -28,39 +28,39 @@ use std::io::ErrorKind;
 use std::net::Net;
 use std::sync::Wait;
 
-/// Result of a look at a socket.
+/// Result of advancing a callback on its socket.
 #[derive(Clone, Copy, Debug, PartialEq, Eq)]
 pub(crate) enum Seen {
-    /// It has to be waited for.
+    /// The callback waits for its socket.
     Waits,
-    /// It has just been connected, and has to be waited for.
+    /// The connection was just made, and the callback waits for its socket.
     Connected,
-    /// The peer didn't take the connection.
+    /// The connection couldn't be made.
     Refused,
-    /// Nothing more will come of the callback.
+    /// The callback has ended.
     Ended,
-    /// It has no socket: what was reported was of another before it.
+    /// The callback has no socket: the event was for an earlier one.
     Idle,
 }
 
-/// An errand that was taken, and the socket of its callback, once it has one.
+/// Errand that was accepted, and the socket of its callback once it has one.
 #[derive(Drop)]
 pub(crate) struct Call<G: SyncGroup> {
     attempt: Attempt<G>,
     stream: Option<TcpStream>,
     is_connected: bool,
-    /// The host that it goes to, by its number.
+    /// Number of the host that it goes to.
     host: usize,
     /// Number of the host's addresses that were tried.
     tried: usize,
-    /// When it began to connect, in milliseconds.
+    /// Moment at which it began to connect, in milliseconds.
     began: u64,
-    /// Its end, or the one that it would have now.
+    /// Its end; until it ends, the end that it would have now.
     end: End,
 }
 
 impl<G: SyncGroup> Call<G> {
-    /// An errand that is taken now, whose ask stands in the journal of that instance.
+    /// Makes the call of an errand whose ask is in the journal of that instance.
     pub(crate) fn new(errand: Errand, instance: Instance, position: u64) -> Call<G>
         ensures errand { result.attempt.errand ≡ Some (errand, position) }
         ensures journal { result.attempt.instance ≡ instance }
@@ -76,7 +76,8 @@ impl<G: SyncGroup> Call<G> {
         }
     }
 
-    /// Makes the callback, where it may leave, and tells the host and port of its errand's address.
+    /// Makes the callback if it may be sent. Returns whether it may, and if so, the host and port of the errand's
+    /// address.
     pub(crate) fn begin<R: Wait>(&mut self, rt: &R, alloc: Global, group: &G) -> Leave
         ensures errand { self.new.attempt.errand ≡ self.old.attempt.errand }
         ensures socket { (socket : String Global) → result ≡ Leave.Now socket
@@ -85,24 +86,24 @@ impl<G: SyncGroup> Call<G> {
         self.attempt.begin(rt, alloc, group)
     }
 
-    /// The errand.
+    /// Returns the errand.
     pub(crate) fn errand(&self) -> Option<&Errand>
         ensures { option_map (λ errand. errand.now) result ≡ option_map (λ handed. handed.0) self.now.attempt.errand }
     {
         self.attempt.errand()
     }
 
-    /// Returns the position up to which its journal has to be durable before it leaves.
+    /// Returns the position up to which the journal has to be durable before the callback is sent.
     pub(crate) fn position(&self) -> u64 {
         self.attempt.position()
     }
 
-    /// Returns whether the journal of an instance is durable up to that position.
+    /// Returns whether the journal of an instance is durable up to the errand's position.
     pub(crate) fn is_kept<R: Wait>(&self, rt: &R, group: &G, instance: Instance) -> bool {
         matches!(group.kept(rt, instance, self.position()), Ok(Some(_)))
     }
 
-    /// The errand, and what came of it.
+    /// Returns the errand, and the outcome of its callback.
     pub(crate) fn finish(self) -> Option<(Errand, Outcome)>
         ensures errand { option_map (λ came. came.0) result ≡ option_map (λ handed. handed.0) self.attempt.errand }
         ensures came { IfSome result (λ came. ForSome self.attempt.errand
@@ -113,14 +114,15 @@ impl<G: SyncGroup> Call<G> {
         attempt.finish()
     }
 
-    /// Returns what is told of it, unless it brought its member further. Where memory is refused nothing is known.
+    /// Returns the reply that is reported for it, or `None` if it brought its member further. Fails if memory is
+    /// refused.
     pub(crate) fn reply(&self) -> Result<Option<Reply>, Memory>
         ensures { IfOk result (λ reply. Replies self.now.end self.now.attempt.flight reply) }
     {
         self.attempt.reply(self.end)
     }
 
-    /// No address of its host is found.
+    /// Notes that no address of its host was found.
     pub(crate) fn miss(&mut self)
         ensures errand { self.new.attempt.errand ≡ self.old.attempt.errand }
         ensures end { self.new.end ≡ End.NoAddress }
@@ -140,7 +142,7 @@ impl<G: SyncGroup> Call<G> {
         self.began
     }
 
-    /// It goes to that host from now on.
+    /// Directs the call to a host, and notes the moment at which it begins to connect.
     pub(crate) fn set_out(&mut self, host: usize, now: u64)
         ensures { self.new.attempt.errand ≡ self.old.attempt.errand }
     {
@@ -148,7 +150,7 @@ impl<G: SyncGroup> Call<G> {
         self.began = now;
     }
 
-    /// Begins to connect to an address of its host, where the rules let that, and tells whether it could.
+    /// Begins to connect to an address of its host if the rules allow the address. Returns whether it could.
     pub(crate) fn connect<R: Net>(
         &mut self,
         rt: &R,
@@ -177,7 +179,7 @@ impl<G: SyncGroup> Call<G> {
         is_watched
     }
 
-    /// Returns whether the system had no socket for it: too many files are open, say.
+    /// Returns whether the system had no socket for it, for example since too many files are open.
     pub(crate) fn lacks_socket(&self) -> bool
         ensures { result ≡ has_no_socket self.now.end }
     {
@@ -191,14 +193,14 @@ impl<G: SyncGroup> Call<G> {
         self.tried = 0;
     }
 
-    /// Ends its socket, and tells whether it had one.
+    /// Closes its socket. Returns whether it had one.
     pub(crate) fn hang_up(&mut self) -> bool
         ensures { self.new.attempt.errand ≡ self.old.attempt.errand }
     {
         self.stream.take().is_some()
     }
 
-    /// Ends its socket, since a limit of time has passed, and tells whether it had one.
+    /// Closes its socket, since a time limit has passed. Returns whether it had one.
     pub(crate) fn give_up(&mut self, patience: Patience) -> bool
         ensures errand { self.new.attempt.errand ≡ self.old.attempt.errand }
         ensures end { self.new.end ≡ End.TimedOut (limit_of self.old.is_connected patience) }
@@ -209,7 +211,7 @@ impl<G: SyncGroup> Call<G> {
         had_socket
     }
 
-    /// Moves what can be moved.
+    /// Moves the bytes that can be moved now, once the connection is made.
     pub(crate) fn advance(&mut self, buffer: &mut [u8]) -> Seen
         ensures { self.new.attempt.errand ≡ self.old.attempt.errand }
     {
@@ -241,7 +243,7 @@ impl<G: SyncGroup> Call<G> {
     }
 }
 
-/// Begins to connect to a target that the rules let. Else tells how that ends.
+/// Begins to connect to a target if the rules allow it. Returns the callback's end otherwise.
 fn dial<R: Net>(rt: &R, rules: &Rules, to: Target<'_>) -> Result<TcpStream, End>
     ensures { OnOk result
         (IsTrue (let_address rules.now (host_in to.entry.socket.now) (socket_ip to.entry.address)
@@ -256,7 +258,7 @@ fn dial<R: Net>(rt: &R, rules: &Rules, to: Target<'_>) -> Result<TcpStream, End>
     }
 }
 
-/// Returns the limit of time that has passed of a callback: that to connect, or that for the whole reply.
+/// Returns the time limit of a callback that has passed: that to connect, or that for the whole reply.
 fn limit_of(is_connected: bool, patience: Patience) -> u64
     ensures { result ≡ limit_of is_connected patience }
 {
@@ -281,7 +283,7 @@ fn connection_of(stream: &TcpStream) -> Connection {
     }
     match stream.peer_addr() {
         Ok(_) => {
-            // What is written goes out at once, also where this can't be set.
+            // Bytes that are written go out at once, even if this can't be set.
             let _ = stream.set_nodelay(true);
             Connection::Made
         }

@@ -1,4 +1,4 @@
-//! All callbacks of one carrier.
+//! All callbacks of one callback worker.
 
 ghost use Rattle.std.specs.Prelude.{◌≡◌, ℕ, [], IfOk, IfSome, IfNone};
 ghost use Rattle.lra_courier.specs.Carriages.{Gains, AreSame};
@@ -30,26 +30,26 @@ use std::sync::atomic::{AtomicU64, Ordering};
 use std::sync::{Arc, Wait};
 use std::time;
 
-/// Number of milliseconds that the office is left alone in any case.
+/// Least number of milliseconds between two polls of the office.
 const PAUSE_MS: u64 = 2;
 
-/// Number of milliseconds until a socket is asked for again that the system didn't have.
+/// Number of milliseconds until a callback asks again for a socket that the system didn't have.
 const SOCKET_PAUSE_MS: u64 = 1_000;
 
 /// Callbacks to members, many at once, of one journal. The request of each is made once that journal is durable up to
-/// the position that was given with the errand; it waits while as many go to its host, or in all, as may, and while its
-/// member is spared, since it was silent. A contract sees which errand is under way at each place. It has to be ended,
-/// as permits of the quota have to go back.
+/// the position that was given with the errand. A callback waits while the quota has no permit for its host. It also
+/// waits while its member is in back-off after a silence. The contract says which errand is under way in each slot. The
+/// owner has to call `end`, which gives the permits of the quota back.
 pub struct Callbacks<'a, R, G: SyncGroup> {
     rt: &'a R,
     alloc: Global,
     group: &'a G,
-    /// The journal that the asks stand in.
+    /// Instance of the journal that has the asks.
     instance: Instance,
     names: &'a Names,
-    /// Where members may be.
+    /// Rules for the addresses of members.
     rules: &'a Rules,
-    /// The bound on callbacks that go out at once, of all callback workers.
+    /// Quota of callbacks that go out at once, for all callback workers.
     quota: &'a Quota,
     share: Share,
     /// Number of callbacks under way, for others to see.
@@ -57,19 +57,19 @@ pub struct Callbacks<'a, R, G: SyncGroup> {
     calls: Slab<Call<G>>,
     traffic: Traffic,
     sparing: Sparing<'a>,
-    /// When it looked at its office last.
+    /// Moment at which it polled its office last.
     looked: u64,
     /// The office's clock.
     clock: SystemClock<'a, R>,
-    /// Bells that wake the callback workers.
+    /// Wakers of all callback workers.
     bells: &'a Arc<Vec<Waker>>,
-    /// When it woke them last, by the office's clock.
+    /// Moment at which it woke them last, by the office's clock.
     rang: u64,
     /// Outcomes of the members' last callbacks, for others to see.
     outcomes: &'a Outcomes,
 }
 
-/// Those go on that wait no longer at a moment.
+/// Resumes the callbacks whose wait has ended at a moment.
 fn go_on(sparing: &mut Sparing<'_>, traffic: &mut Traffic, now: u64) {
     for _ in 0..u64::MAX {
         let Some(key) = sparing.release(now) else {
@@ -79,7 +79,7 @@ fn go_on(sparing: &mut Sparing<'_>, traffic: &mut Traffic, now: u64) {
     }
 }
 
-/// Notes what came of an errand, if anything, where members that are silent are spared.
+/// Notes the outcome of an errand, if there is one, while silent members are put in back-off.
 fn note<R: time::Clock>(
     rt: &R,
     traffic: &mut Traffic,
@@ -93,8 +93,8 @@ fn note<R: time::Clock>(
     }
 }
 
-/// Notes what is told of a callback that has ended, for who asks why a member hangs, and forgets a member that got
-/// further. Where memory is refused for that, what was noted before stays.
+/// Notes the reply of a callback that has ended, for operators who ask why a member hangs. Forgets what was noted of a
+/// member that got further. If memory is refused, what was noted before stays.
 fn tell_of<R: Wait + time::Clock, G: SyncGroup>(
     rt: &R,
     outcomes: &Outcomes,
@@ -124,15 +124,18 @@ impl<'a, R, G: SyncGroup> Model for Callbacks<'a, R, G> {
 }
 
 impl<'a, R: Wait + Net + time::Clock, G: SyncGroup> Callbacks<'a, R, G> {
-    /// None is under way. What the rules don't let is not connected to, and silent. The poll is one that
-    /// [`bell`](crate::bell) gave, as the bells of all callback workers, where its own has that place. A callback goes
-    /// out once the quota, which all have, gives a permit. How many are under way is told there whenever one is taken
-    /// or done. A member that was silent isn't asked again in the same stage until the least pause has passed, in
-    /// milliseconds: 0 spares none, and `u64::MAX` never ends. Others may change it at any time; what came before it
-    /// was told isn't known. Who waits so isn't counted as under way. The clock is the one by which its office's
-    /// moments are given: where it has ten seconds to go until the greatest moment, or less, silent members are spared
-    /// for ten seconds at least. What came of the last callback of each member that it didn't bring further is noted in
-    /// the outcomes. Where memory is refused the poll comes back.
+    /// Makes the callbacks of one worker; none is under way. Returns the poll if memory is refused.
+    ///
+    /// `poll` is one that [`bell`](crate::bell) made. `bells` are the wakers of all callback workers; the worker's own
+    /// is at `place`. A callback is sent once the quota, which all workers share, gives a permit. An address that the
+    /// rules don't allow isn't connected to: the callback is silent. The number of callbacks under way is stored in
+    /// `under_way` whenever an errand is accepted or done; callbacks in back-off don't count.
+    ///
+    /// Members that were silent aren't asked again in the same stage until the least pause has passed, in milliseconds:
+    /// 0 means no back-off, and `u64::MAX` never ends. Others may change the pause at any time; silences while it was 0
+    /// aren't known. The clock is the one by which the office's moments are given. If it has ten seconds or less until
+    /// the greatest moment, the pause is ten seconds at least. The outcome of each member's last callback is noted in
+    /// `outcomes`, unless the callback brought the member further.
     pub fn new(
         rt: &'a R,
         alloc: Global,
@@ -183,7 +186,7 @@ impl<'a, R: Wait + Net + time::Clock, G: SyncGroup> Callbacks<'a, R, G> {
         })
     }
 
-    /// Ends it: those that are under way are discarded, and then all permits go back.
+    /// Ends the worker's callbacks: discards those under way, and then gives all permits back.
     pub fn end(self) {
         let Callbacks {
             rt,
@@ -210,7 +213,7 @@ impl<'a, R: Wait + Net + time::Clock, G: SyncGroup> Callbacks<'a, R, G> {
         drop(traffic);
     }
 
-    /// Those go on whose members are spared no longer.
+    /// Resumes the callbacks whose back-off has ended.
     fn go_on_all(&mut self)
         ensures { self.new ≡ self.old }
     {
@@ -250,7 +253,7 @@ impl<'a, R: Wait + Net + time::Clock, G: SyncGroup> Callbacks<'a, R, G> {
         is_held
     }
 
-    /// Those leave the disk that may.
+    /// Resumes callbacks after their back-off, and queues the callbacks for their hosts whose positions are durable.
     fn depart_all(&mut self)
         ensures { self.new ≡ self.old }
     {
@@ -266,8 +269,8 @@ impl<'a, R: Wait + Net + time::Clock, G: SyncGroup> Callbacks<'a, R, G> {
         }
     }
 
-    /// Queues a call for its time or its host, where the disk is durable up to its position. Returns whether it waits
-    /// for the disk no longer.
+    /// Queues a call for the end of its back-off, or for its host, if the journal is durable up to its position.
+    /// Returns whether the call no longer waits for the sync.
     fn depart(&mut self, key: usize) -> bool
         ensures { self.new ≡ self.old }
     {
@@ -285,7 +288,7 @@ impl<'a, R: Wait + Net + time::Clock, G: SyncGroup> Callbacks<'a, R, G> {
         true
     }
 
-    /// Waits for the disk, for all that do.
+    /// Waits until the journal is durable up to the last position that a call waits for.
     fn settle(&mut self)
         ensures { self.new ≡ self.old }
     {
@@ -293,12 +296,12 @@ impl<'a, R: Wait + Net + time::Clock, G: SyncGroup> Callbacks<'a, R, G> {
             return;
         };
         if let Some(call) = self.calls.get(key) {
-            // Whether the journal is durable up to its position is asked again for each.
+            // Each call asks again whether the journal is durable up to its position.
             let _ = self.group.keep(self.rt, self.instance, call.position());
         }
     }
 
-    /// Those set out whose hosts may have one more.
+    /// Starts the calls whose hosts may have one more. Ends those whose hosts aren't found.
     fn start_all(&mut self, now: u64)
         ensures { self.new ≡ self.old }
     {
@@ -316,7 +319,7 @@ impl<'a, R: Wait + Net + time::Clock, G: SyncGroup> Callbacks<'a, R, G> {
         }
     }
 
-    /// Nothing comes of one whose host isn't found.
+    /// Ends a call whose host isn't found.
     fn miss(&mut self, key: usize)
         ensures { self.new ≡ self.old }
     {
@@ -328,7 +331,7 @@ impl<'a, R: Wait + Net + time::Clock, G: SyncGroup> Callbacks<'a, R, G> {
         self.traffic.end(key);
     }
 
-    /// Begins the call of a host that has a permit.
+    /// Starts a call to a host that has a permit for it.
     fn start(&mut self, key: usize, host: usize, now: u64)
         ensures { self.new ≡ self.old }
     {
@@ -348,7 +351,7 @@ impl<'a, R: Wait + Net + time::Clock, G: SyncGroup> Callbacks<'a, R, G> {
         self.connect(key);
     }
 
-    /// Connects one to the first of its host's addresses that wasn't tried and may take it.
+    /// Connects a call to the first of its host's addresses that wasn't tried and can be connected to.
     fn connect(&mut self, key: usize)
         ensures { self.new ≡ self.old }
     {
@@ -359,8 +362,8 @@ impl<'a, R: Wait + Net + time::Clock, G: SyncGroup> Callbacks<'a, R, G> {
         }
     }
 
-    /// Connects one to the next of its host's addresses. Where there is none it has ended. Returns whether there is
-    /// nothing more to try.
+    /// Begins to connect a call to the next of its host's addresses. Ends the call if there is none. Returns whether
+    /// there is nothing more to try.
     fn is_connecting(&mut self, key: usize) -> bool
         ensures { self.new ≡ self.old }
     {
@@ -378,7 +381,7 @@ impl<'a, R: Wait + Net + time::Clock, G: SyncGroup> Callbacks<'a, R, G> {
         }
     }
 
-    /// Ends one that isn't connected, unless the system had no socket for it.
+    /// Ends a call that isn't connected, unless the system had no socket for it.
     fn end_unconnected(&mut self, key: usize)
         ensures { self.new ≡ self.old }
     {
@@ -387,8 +390,8 @@ impl<'a, R: Wait + Net + time::Clock, G: SyncGroup> Callbacks<'a, R, G> {
         }
     }
 
-    /// Puts one off that isn't connected since the system had no socket for it: that says nothing of its member.
-    /// Returns whether it was put off.
+    /// Defers a call that isn't connected if the system had no socket for it, which says nothing of its member. Returns
+    /// whether the call was deferred.
     fn waits_for_socket(&mut self, key: usize) -> bool
         ensures { self.new ≡ self.old }
     {
@@ -407,8 +410,8 @@ impl<'a, R: Wait + Net + time::Clock, G: SyncGroup> Callbacks<'a, R, G> {
         is_held
     }
 
-    /// Looks at one whose socket was reported. Once the disk has failed nothing goes to any member, also of what had
-    /// leave before.
+    /// Advances a call whose socket was reported. Once the sync group has failed, nothing more goes to any member, not
+    /// even of calls that might be sent before.
     fn advance(&mut self, key: usize)
         ensures { self.new ≡ self.old }
     {
@@ -429,7 +432,7 @@ impl<'a, R: Wait + Net + time::Clock, G: SyncGroup> Callbacks<'a, R, G> {
         }
     }
 
-    /// Nothing more will come of one that has set out.
+    /// Ends a call that has a socket, and closes the socket.
     fn finish(&mut self, key: usize)
         ensures { self.new ≡ self.old }
     {
@@ -442,7 +445,7 @@ impl<'a, R: Wait + Net + time::Clock, G: SyncGroup> Callbacks<'a, R, G> {
         }
     }
 
-    /// Nothing more will come of one whose time is up.
+    /// Ends a call whose time is up, and closes its socket.
     fn give_up(&mut self, key: usize)
         ensures { self.new ≡ self.old }
     {
@@ -455,7 +458,7 @@ impl<'a, R: Wait + Net + time::Clock, G: SyncGroup> Callbacks<'a, R, G> {
         }
     }
 
-    /// The errand of one that has ended, and what came of it.
+    /// Removes a call that has ended. Returns its errand and its outcome.
     fn remove(&mut self, key: usize) -> Option<(Errand, Outcome)>
         ensures some { IfSome result (λ came. (n : ℕ) × Gains (errand_at self.new) (errand_at self.old) (came.0, n)
             × OfGroup G.keeps n came.0.ask came.0.kind came.1) }
@@ -471,7 +474,7 @@ impl<'a, R: Wait + Net + time::Clock, G: SyncGroup> Callbacks<'a, R, G> {
         came
     }
 
-    /// Looks at all whose sockets were reported.
+    /// Advances the calls whose sockets were reported.
     fn advance_all(&mut self)
         ensures { self.new ≡ self.old }
     {
@@ -482,7 +485,7 @@ impl<'a, R: Wait + Net + time::Clock, G: SyncGroup> Callbacks<'a, R, G> {
         }
     }
 
-    /// Nothing more will come of those whose time is up.
+    /// Ends the calls whose time is up.
     fn finish_late(&mut self, now: u64)
         ensures { self.new ≡ self.old }
     {
@@ -494,18 +497,18 @@ impl<'a, R: Wait + Net + time::Clock, G: SyncGroup> Callbacks<'a, R, G> {
         }
     }
 
-    /// Returns how many are under way: those that wait for their time aren't.
+    /// Returns the number of calls under way: calls in back-off don't count.
     fn count(&self) -> usize {
         self.calls.len().saturating_sub(self.sparing.count())
     }
 
-    /// Tells how many are under way.
+    /// Reports the number of calls under way.
     fn tell(&self) {
         let count = self.count() as u64;
         self.under_way.store(count, Ordering::SeqCst);
     }
 
-    /// Waits so long at most for sockets, and moves what can be moved.
+    /// Waits for sockets for so many milliseconds at most, and moves what can be moved.
     fn turn(&mut self, millis: u64)
         ensures { self.new ≡ self.old }
     {
@@ -519,8 +522,8 @@ impl<'a, R: Wait + Net + time::Clock, G: SyncGroup> Callbacks<'a, R, G> {
         self.start_all(now);
     }
 
-    /// Returns how long sockets may be waited for, where something is due next at that moment of the office's clock.
-    /// Wakes other callback workers where it is due already.
+    /// Returns how many milliseconds the worker may wait for sockets if something is due next at that moment of the
+    /// office's clock. Wakes the other callback workers if it is due already.
     fn rest(&mut self, next: Option<u64>) -> u64
         ensures { self.new ≡ self.old }
     {
@@ -539,13 +542,13 @@ impl<'a, R: Wait + Net + time::Clock, G: SyncGroup> Callbacks<'a, R, G> {
         }
     }
 
-    /// Tells whether one more is taken.
+    /// Returns whether the worker accepts one more errand.
     fn is_roomy(&self) -> bool {
         self.count() < self.share.held as usize
     }
 
-    /// Wakes the other callback workers, since something is due that wasn't taken here: there is no room for it, or
-    /// there was too much at once. It does so every 50 ms at most, so that workers without room may rest.
+    /// Wakes the other callback workers, since something is due that this worker didn't accept: it has no room, or too
+    /// much was due at once. Does so every 50 ms at most, so that workers without room may rest.
     fn call_others(&mut self, now: u64)
         ensures { self.new ≡ self.old }
     {
@@ -555,7 +558,7 @@ impl<'a, R: Wait + Net + time::Clock, G: SyncGroup> Callbacks<'a, R, G> {
         }
     }
 
-    /// Moves what can be moved until the office may be looked at again.
+    /// Moves what can be moved until the office may be polled again.
     fn linger(&mut self)
         ensures { self.new ≡ self.old }
     {
@@ -579,7 +582,8 @@ impl<R: Wait + Net + time::Clock, G: SyncGroup> Carriage for Callbacks<'_, R, G>
 
     ghost gives = { λ ask kind outcome. MayComeOf G.keeps ask kind outcome };
 
-    /// Where there is none, what is due is left to the other carriers.
+    /// Returns whether the worker accepts one more errand. If it doesn't, the other callback workers accept what is
+    /// due.
     fn has_room(&self) -> bool {
         self.is_roomy()
     }
@@ -598,7 +602,7 @@ impl<R: Wait + Net + time::Clock, G: SyncGroup> Carriage for Callbacks<'_, R, G>
         Ok(())
     }
 
-    /// It rests for a second at most, and for 50 ms where it has no room, since what is due then can't be taken.
+    /// Rests for a second at most. Rests for 50 ms at most if it has no room, since it can't accept what is due then.
     fn carry(&mut self, next: Option<u64>) {
         self.depart_all();
         let rest = self.rest(next);
@@ -606,7 +610,7 @@ impl<R: Wait + Net + time::Clock, G: SyncGroup> Carriage for Callbacks<'_, R, G>
         if !self.traffic.unkept.is_empty() {
             self.settle();
             self.depart_all();
-            // So that what still waits then waits for its host.
+            // After this, a call that still waits waits for its host.
             let now = self.traffic.moment(self.rt);
             self.start_all(now);
         }

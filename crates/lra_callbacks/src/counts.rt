@@ -10,9 +10,9 @@ use std::collections::BTreeMap;
 #[derive(Drop)]
 pub(crate) struct Counts {
     alloc: Global,
-    /// Number that go out.
+    /// Number of callbacks that go out.
     taken: u32,
-    /// Largest number that may.
+    /// Largest number of callbacks that may go out.
     most: u32,
     /// Largest number of them to one host and port.
     each: u32,
@@ -22,7 +22,7 @@ pub(crate) struct Counts {
     ghost at_each: { IsWithin by_host each },
 }
 
-/// Returns how many go to a host and port.
+/// Returns the number of callbacks to a host and port.
 fn count_at(by_host: &BTreeMap<String, u32>, socket: &str) -> u32
     ensures { result ≡ at by_host.now socket.now }
 {
@@ -32,7 +32,8 @@ fn count_at(by_host: &BTreeMap<String, u32>, socket: &str) -> u32
     }
 }
 
-/// Notes how many go to a host and port, and returns whether it did: where memory is refused, all stay as they are.
+/// Stores the number of callbacks to a host and port. Returns whether it did: if memory is refused, all numbers stay as
+/// they are.
 #[tactic(auto, using(std::proofs::lemmas::Map::Text::text_keys))]
 fn put(by_host: &mut BTreeMap<String, u32>, alloc: Global, socket: &str, count: u32) -> bool
     ensures noted { IsTrue result → at by_host.new socket.now ≡ count }
@@ -54,7 +55,7 @@ fn remove(by_host: &mut BTreeMap<String, u32>, socket: &str)
     by_host.remove(socket);
 }
 
-/// Counts one less to a host and port that any go to.
+/// Counts one callback less to a host and port that have any.
 #[tactic(auto, using(std::proofs::lemmas::Map::Text::text_keys))]
 fn subtract(by_host: &mut BTreeMap<String, u32>, socket: &str)
     ensures one_less { at by_host.new socket.now ≡ at by_host.old socket.now - 1 }
@@ -71,7 +72,7 @@ fn subtract(by_host: &mut BTreeMap<String, u32>, socket: &str)
 }
 
 impl Counts {
-    /// None goes out, of so many that may.
+    /// Makes counts of no callbacks, with these bounds.
     pub(crate) fn new(alloc: Global, most: u32, each: u32) -> Counts
         ensures none { (result.taken ≡ 0) × ((socket : List ℕ) → at result.by_host socket ≡ 0) }
         ensures bounds { (result.most ≡ most) × (result.each ≡ each) }
@@ -92,14 +93,15 @@ impl Counts {
         self.taken >= self.most
     }
 
-    /// Returns whether one more may go to a host and port.
+    /// Returns whether one more callback may go to a host and port.
     pub(crate) fn have_room(&self, socket: &str) -> bool
         ensures { IsTrue result ↔ HasRoom self.now.taken self.now.most self.now.by_host self.now.each socket.now }
     {
         self.taken < self.most && count_at(&self.by_host, socket) < self.each
     }
 
-    /// Counts one more to a host and port, where it may go, and returns whether it did: not where memory is refused.
+    /// Counts one more callback to a host and port if it may go. Returns whether it did: it doesn't if memory is
+    /// refused.
     pub(crate) fn enter(&mut self, socket: &str) -> bool
         ensures room { IsTrue result
             → HasRoom self.old.taken self.old.most self.old.by_host self.old.each socket.now }
@@ -120,7 +122,7 @@ impl Counts {
         is_noted
     }
 
-    /// Counts one less to a host and port.
+    /// Counts one callback less to a host and port.
     pub(crate) fn leave(&mut self, socket: &str)
         ensures taken { self.new.taken ≡ self.old.taken - 1 }
         ensures host { at self.new.by_host socket.now ≡ at self.old.by_host socket.now - 1 }

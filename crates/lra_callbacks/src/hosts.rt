@@ -1,4 +1,4 @@
-//! The hosts that callbacks go to, and what waits for each.
+//! Hosts that callbacks go to, and the callbacks that wait for each.
 
 use crate::book::Found;
 use crate::names::Names;
@@ -16,11 +16,11 @@ const NAME_MS: u64 = 10_000;
 #[derive(Drop)]
 struct Host {
     socket: String,
-    /// Its addresses: none, while they aren't known.
+    /// Its addresses; none while they aren't known.
     addresses: Vec<SocketAddr>,
-    /// Until when they count, in milliseconds.
+    /// Moment until which they are valid, in milliseconds.
     until: u64,
-    /// Until when they are waited for.
+    /// Moment until which it waits for the look-up of its name, in milliseconds.
     patience: u64,
     /// Number of permits that it has, for its open sockets among them.
     permits: u32,
@@ -28,34 +28,34 @@ struct Host {
     open: u32,
     /// The callbacks that wait for it.
     waiting: VecDeque<usize>,
-    /// A flag, set while it stands in line.
+    /// Flag, set while it stands in line.
     is_lined: bool,
-    /// A flag, set while its name is waited for.
+    /// Flag, set while it waits for the look-up of its name.
     is_unknown: bool,
-    /// A flag, set while a permit is waited for.
+    /// Flag, set while it waits for a permit.
     is_pending: bool,
 }
 
-/// A host and port, and an address that they came to.
+/// Host and port, and one of the addresses that were found for them.
 #[derive(Clone, Copy)]
 pub(crate) struct Target<'h> {
     pub(crate) socket: &'h str,
     pub(crate) address: SocketAddr,
 }
 
-/// Next thing to do for the callbacks.
+/// Next step of the callbacks.
 #[derive(Clone, Copy, Debug, PartialEq, Eq)]
 pub(crate) enum Next {
-    /// This callback sets out to that host, and is counted there.
+    /// This callback starts to that host, and is counted there.
     Goes(usize, usize),
-    /// Nothing comes of this callback: its host isn't found.
+    /// This callback fails, since its host isn't found.
     Fails(usize),
-    /// None can set out now.
+    /// No callback can start now.
     Nothing,
 }
 
-/// The hosts that callbacks go to. Those that may have one more stand in line, so that each has its turn. Each socket
-/// needs a permit of the quota.
+/// Hosts that callbacks go to. Hosts that may have one more callback stand in line, so that each has its turn. Each
+/// socket needs a permit of the quota.
 #[derive(Drop)]
 pub(crate) struct Hosts {
     alloc: Global,
@@ -63,16 +63,16 @@ pub(crate) struct Hosts {
     worker: usize,
     hosts: Slab<Host>,
     by_socket: BTreeMap<String, usize>,
-    /// The hosts that may have one more, by number.
+    /// Numbers of the hosts that may have one more callback.
     line: VecDeque<usize>,
-    /// Those whose names are waited for.
+    /// Numbers of the hosts that wait for the look-up of their names.
     unknown: VecDeque<usize>,
-    /// A flag, set where memory was refused for a permit: then it is to be asked for again.
+    /// Flag, set if memory was refused for a permit, so that a host has to ask again.
     is_refused: bool,
 }
 
 impl Hosts {
-    /// None, for a worker that has that number at the quota.
+    /// Makes an empty set of hosts for the worker that has that number at the quota.
     pub(crate) fn new(alloc: Global, worker: usize) -> Hosts {
         Hosts {
             alloc,
@@ -85,7 +85,7 @@ impl Hosts {
         }
     }
 
-    /// Queues a callback for its host, and returns whether it did: not where memory is refused.
+    /// Queues a callback for its host. Returns whether it did: it doesn't if memory is refused.
     pub(crate) fn enlist(&mut self, key: usize, socket: String) -> bool {
         let Some(number) = self.number_of(socket) else {
             return false;
@@ -94,18 +94,18 @@ impl Hosts {
             Some(host) => host.waiting.push_back(key).is_ok(),
             None => false,
         };
-        // In line it is forgotten, too, where nothing waits for it.
+        // Once its turn comes, a host is forgotten if nothing waits for it.
         self.line_up(number);
         is_waiting
     }
 
-    /// The number of a host, which is a new one where there is none yet.
+    /// Returns the number of a host, which is added if it is new. Returns `None` if memory is refused.
     fn number_of(&mut self, socket: String) -> Option<usize> {
         if let Some(number) = self.by_socket.get(socket.as_str()) {
             return Some(*number);
         }
         let key = String::from_str(self.alloc, socket.as_str()).ok()?;
-        // Each host stands at most once in each.
+        // Each host stands at most once in each queue.
         self.line.reserve(self.hosts.len().saturating_add(1)).ok()?;
         self.unknown
             .reserve(self.hosts.len().saturating_add(1))
@@ -118,7 +118,7 @@ impl Hosts {
         Some(number)
     }
 
-    /// A host may have one more.
+    /// Puts a host in line, unless it is there already.
     fn line_up(&mut self, number: usize) {
         if let Some(host) = self.hosts.get_mut(number) {
             if !host.is_lined {
@@ -128,7 +128,7 @@ impl Hosts {
         }
     }
 
-    /// A callback to a host has ended: its permit goes back.
+    /// Counts one callback to a host less, and gives its permit back.
     pub(crate) fn leave<R: Wait>(&mut self, rt: &R, quota: &Quota, number: usize) {
         if let Some(host) = self.hosts.get_mut(number) {
             host.leave(rt, quota, self.worker);
@@ -136,7 +136,7 @@ impl Hosts {
         self.line_up(number);
     }
 
-    /// The worker takes part in the quota no longer: all its permits go back.
+    /// Leaves the quota: gives all permits of the worker back.
     pub(crate) fn part<R: Wait>(&mut self, rt: &R, quota: &Quota) {
         for (_, host) in self.hosts.iter() {
             if host.is_pending {
@@ -153,7 +153,7 @@ impl Hosts {
         quota.part(rt, self.worker);
     }
 
-    /// Those stand in line to which the worker was called.
+    /// Takes the quota's calls to the worker, and puts the called hosts in line.
     pub(crate) fn take_calls<R: Wait>(&mut self, rt: &R, quota: &Quota) {
         self.is_refused = false;
         for _ in 0..u64::MAX {
@@ -167,7 +167,7 @@ impl Hosts {
         }
     }
 
-    /// A host and port, with one of its addresses.
+    /// Returns a host and port with one of its addresses, by their numbers.
     pub(crate) fn target(&self, number: usize, place: usize) -> Option<Target<'_>> {
         let host = self.hosts.get(number)?;
         let address = host.addresses.get(place).copied()?;
@@ -177,12 +177,13 @@ impl Hosts {
         })
     }
 
-    /// Tells whether a host is to be looked at again soon: its name is waited for, or memory was refused for a permit.
+    /// Returns whether a host has to be polled soon: it waits for the look-up of its name, or memory was refused for a
+    /// permit.
     pub(crate) fn are_open(&self) -> bool {
         self.is_refused || !self.unknown.is_empty()
     }
 
-    /// Those whose names may be known by now stand in line again.
+    /// Puts the hosts in line again whose names may be known by now.
     pub(crate) fn ask_again(&mut self) {
         for _ in 0..self.unknown.len() {
             let Some(number) = self.unknown.pop_front() else {
@@ -195,7 +196,7 @@ impl Hosts {
         }
     }
 
-    /// The callback that is next, of those whose hosts stand in line.
+    /// Returns the next callback of the hosts that stand in line.
     pub(crate) fn next<R: Wait>(&mut self, rt: &R, names: &Names, quota: &Quota, now: u64) -> Next {
         for _ in 0..self.line.len() {
             let Some(number) = self.line.pop_front() else {
@@ -209,7 +210,7 @@ impl Hosts {
         Next::Nothing
     }
 
-    /// The callback that is next to a host, which has stood in line. It does so again, where another can be.
+    /// Returns the next callback to a host that stood in line. Puts the host in line again if it may have another.
     fn next_of<R: Wait>(
         &mut self,
         rt: &R,
@@ -251,7 +252,7 @@ impl Hosts {
         }
     }
 
-    /// The first callback that waits for a host leaves it, to go or to fail.
+    /// Takes the first callback that waits for a host, to start it or to let it fail.
     fn first_of(&mut self, number: usize, goes: bool) -> Next {
         let Some(host) = self.hosts.get_mut(number) else {
             return Next::Nothing;
@@ -265,7 +266,7 @@ impl Hosts {
         }
     }
 
-    /// Nothing goes to a host, and nothing waits for it.
+    /// Forgets a host: nothing goes to it, and nothing waits for it.
     fn forget(&mut self, number: usize) {
         if let Some(host) = self.hosts.try_remove(number) {
             self.by_socket.remove(host.socket.as_str());
@@ -282,7 +283,7 @@ enum Known {
 }
 
 impl Host {
-    /// One whose address stands in numbers has that one for ever.
+    /// Makes a host. An address that stands in numbers is valid for ever.
     fn new(alloc: Global, socket: String) -> Host {
         let mut addresses = Vec::new(alloc);
         let mut until = 0;
@@ -305,13 +306,13 @@ impl Host {
         }
     }
 
-    /// Nothing goes to it or waits for it, and neither its name nor a permit is waited for.
+    /// Returns whether nothing goes to the host or waits for it, and it waits for neither its name nor a permit.
     fn is_idle(&self) -> bool {
         self.open == 0 && self.waiting.is_empty() && !self.is_unknown && !self.is_pending
     }
 
-    /// Counts one more socket, where there is a permit for it. Asks for one where there is none, unless it is waited
-    /// for.
+    /// Counts one more socket if there is a permit for it. Asks for a permit if there is none, unless the host waits
+    /// for one.
     fn enter<R: Wait>(&mut self, rt: &R, quota: &Quota, worker: usize, number: usize) -> Asked {
         if self.is_pending && self.permits <= self.open {
             return Asked::Pending;
@@ -330,7 +331,7 @@ impl Host {
         Asked::Given
     }
 
-    /// The worker was called to it: it has a permit, or is to ask again.
+    /// Takes a call of the quota: the host has a permit, or has to ask again.
     fn answer(&mut self, has_permit: bool) {
         self.is_pending = false;
         if has_permit {
@@ -338,14 +339,14 @@ impl Host {
         }
     }
 
-    /// Counts one socket less, whose permit goes back.
+    /// Counts one socket less, and gives its permit back.
     fn leave<R: Wait>(&mut self, rt: &R, quota: &Quota, worker: usize) {
         self.open = self.open.saturating_sub(1);
         self.permits = self.permits.saturating_sub(1);
         quota.give_back(rt, worker, self.socket.as_str());
     }
 
-    /// Gives permits back that no socket needs.
+    /// Gives the permits back that no socket needs.
     fn spare<R: Wait>(&mut self, rt: &R, quota: &Quota, worker: usize) {
         for _ in self.open..self.permits {
             quota.give_back(rt, worker, self.socket.as_str());
@@ -353,7 +354,7 @@ impl Host {
         self.permits = self.permits.min(self.open);
     }
 
-    /// Learns the host's addresses, where those that are known don't count any more.
+    /// Finds the host's addresses if the known ones aren't valid any more.
     fn look_up<R: Wait>(&mut self, rt: &R, names: &Names, now: u64) -> Known {
         if now < self.until {
             return Known::Yes;
@@ -373,7 +374,7 @@ impl Host {
         }
     }
 
-    /// Its name is waited for, up to a time.
+    /// Waits for the look-up of the host's name, up to a moment.
     fn wait_on(&mut self, now: u64) -> Known {
         if self.patience == 0 {
             self.patience = now.saturating_add(NAME_MS);

@@ -1,4 +1,4 @@
-//! Callbacks to members, many at once over sockets: a thread with a poll carries all that are under way.
+//! Callbacks to members, many at once over sockets: one thread with a poll drives all that are under way.
 #![tactic(auto)]
 
 mod attempt;

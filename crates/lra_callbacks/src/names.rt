@@ -1,4 +1,4 @@
-//! The addresses of hosts that have names.
+//! DNS cache, as all callback workers share it.
 
 use crate::book::{Book, Found};
 use crate::traffic::ring;
@@ -8,22 +8,22 @@ use std::net::{Net, SocketAddr, ToSocketAddrs};
 use std::sync::{Condvar, Mutex, Wait};
 use std::time::Clock;
 
-/// Book of hosts that have names, for all callback workers: resolvers look the names up, since the system lets a thread
-/// that asks wait.
+/// DNS cache of hosts that have names, for all callback workers. Resolver threads look the names up, since the system
+/// blocks a thread that asks.
 #[derive(Drop)]
 pub struct Names {
     alloc: Global,
     book: Mutex<Book>,
-    /// Here those wait that look names up.
+    /// Condition that the resolvers wait for.
     asked: Condvar,
 }
 
-/// The milliseconds of the steady clock.
+/// Returns the milliseconds of the steady clock, or `None` if it can't be read.
 pub(crate) fn steady_now<R: Clock>(rt: &R) -> Option<u64> {
     u64::try_from(rt.monotonic().ok()?.as_millis()).ok()
 }
 
-/// The addresses of a host and port, where the system finds any.
+/// Returns the addresses of a host and port, if the system finds any.
 fn look_up<R: Net>(rt: &R, alloc: Global, socket: &str) -> Option<Vec<SocketAddr>> {
     let mut found = Vec::new(alloc);
     for address in socket.to_socket_addrs(rt).ok()? {
@@ -36,7 +36,7 @@ fn look_up<R: Net>(rt: &R, alloc: Global, socket: &str) -> Option<Vec<SocketAddr
 }
 
 impl Names {
-    /// No name is asked for.
+    /// Makes an empty cache.
     pub fn new(alloc: Global) -> Names {
         Names {
             alloc,
@@ -45,7 +45,7 @@ impl Names {
         }
     }
 
-    /// Returns what is known of a host and port at a moment. Where nothing is, it is looked up.
+    /// Returns what is known of a host and port at a moment. Requests their look-up if nothing is.
     pub(crate) fn find<R: Wait>(&self, rt: &R, socket: &str, now: u64) -> Found {
         let found = self.book.lock(rt).find(self.alloc, socket, now);
         if matches!(found, Found::Asked) {
@@ -54,8 +54,8 @@ impl Names {
         found
     }
 
-    /// Looks up what is asked for, and rings after each, until it is told that nothing more will be. A thread of its
-    /// own is to call it, or several.
+    /// Looks up the names that are requested, and wakes the callback workers after each, until the cache is closed. One
+    /// or several threads of their own have to call this.
     pub fn run<R: Wait + Net + Clock>(&self, rt: &R, bells: &[Waker]) {
         for _ in rt.forever() {
             let book = self.book.lock(rt);
@@ -71,7 +71,7 @@ impl Names {
         }
     }
 
-    /// Nothing more will be asked for: who looks up ends.
+    /// Closes the cache: nothing more is requested, and the resolvers end.
     pub fn close<R: Wait>(&self, rt: &R) {
         self.book.lock(rt).close();
         self.asked.notify_all();

@@ -5,7 +5,7 @@ use slab::Slab;
 use std::alloc::Global;
 use std::collections::{BTreeMap, VecDeque};
 
-/// A worker that waits for a permit, and the number by which it knows the host.
+/// Worker that waits for a permit, and the number by which it knows the host.
 #[derive(Clone, Copy)]
 pub(crate) struct Waiter {
     pub(crate) worker: usize,
@@ -30,7 +30,7 @@ pub(crate) struct Places {
 }
 
 impl Places {
-    /// None waits.
+    /// Makes an empty set of queues.
     pub(crate) fn new(alloc: Global) -> Places {
         Places {
             alloc,
@@ -40,9 +40,9 @@ impl Places {
         }
     }
 
-    /// Queues a worker for a host and port, and returns whether it did: not where memory is refused.
+    /// Queues a worker for a host and port. Returns whether it did: it doesn't if memory is refused.
     pub(crate) fn wait(&mut self, waiter: Waiter, socket: &str) -> bool {
-        // Two looks for each that comes: so no more empty queues stay than half of all.
+        // Two queues are checked for each worker that comes, so at most half of all queues are empty.
         self.tidy();
         self.tidy();
         let Some(number) = self.number_of(socket) else {
@@ -54,16 +54,16 @@ impl Places {
         }
     }
 
-    /// The first that waits for a host and port enters there, and waits no longer. Returns it, and whether it was
-    /// counted: not where memory is refused.
+    /// Takes the first worker that waits for a host and port, and counts it there. Returns it, and whether it was
+    /// counted: it isn't if memory is refused.
     pub(crate) fn next_at(&mut self, counts: &mut Counts, socket: &str) -> Option<(Waiter, bool)> {
         let number = self.by_socket.get(socket).copied()?;
         let waiter = self.queues.get_mut(number)?.waiters.pop_front()?;
         Some((waiter, counts.enter(socket)))
     }
 
-    /// The first that waits for the next host and port with room enters there, and waits no longer. Returns it, and
-    /// whether it was counted: not where memory is refused.
+    /// Takes the first worker that waits for the next host and port with room, and counts it there. Returns it, and
+    /// whether it was counted: it isn't if memory is refused.
     pub(crate) fn next(&mut self, counts: &mut Counts) -> Option<(Waiter, bool)> {
         for _ in 0..self.line.len() {
             let number = self.turn()?;
@@ -81,7 +81,7 @@ impl Places {
         None
     }
 
-    /// A worker waits for a host and port no longer.
+    /// Removes a worker from the queue of a host and port.
     pub(crate) fn withdraw(&mut self, worker: usize, socket: &str) {
         let Some(number) = self.by_socket.get(socket).copied() else {
             return;
@@ -100,7 +100,7 @@ impl Places {
         }
     }
 
-    /// Returns the number of the queue whose turn it is, which is the last in line from now on.
+    /// Returns the number of the queue whose turn it is, and moves that queue to the end of the line.
     fn turn(&mut self) -> Option<usize> {
         let number = self.line.pop_front()?;
         // There is room, as it has just left.
@@ -108,7 +108,7 @@ impl Places {
         Some(number)
     }
 
-    /// Forgets the queue whose turn it is, where it is empty. Else it is the last in line.
+    /// Forgets the queue whose turn it is if it is empty. Otherwise moves it to the end of the line.
     fn tidy(&mut self) {
         let Some(number) = self.line.pop_front() else {
             return;
@@ -131,7 +131,7 @@ impl Places {
         }
     }
 
-    /// Returns the number of a host's queue, which is a new one where there is none yet.
+    /// Returns the number of a host's queue, which is added if there is none yet. Returns `None` if memory is refused.
     fn number_of(&mut self, socket: &str) -> Option<usize> {
         if let Some(number) = self.by_socket.get(socket) {
             return Some(*number);

@@ -1,4 +1,4 @@
-//! The bytes of one callback.
+//! Bytes of one callback.
 
 ghost use Rattle.lra_callbacks.specs.inner.Attempts.{IsOfSame, HandsOut, TakesIn};
 
@@ -8,16 +8,16 @@ use std::io::{ErrorKind, Read, Write};
 /// Largest number of steps that a callback takes: more than it has bytes.
 const MOST_STEPS: u32 = 1 << 22;
 
-/// Point that a callback got to.
+/// State of a callback after its bytes were moved.
 #[derive(Clone, Copy, Debug, PartialEq, Eq)]
 pub(crate) enum Moved {
-    /// Its stream takes and has no more bytes now.
+    /// Its stream accepts no more bytes and has no more bytes now.
     Waits,
-    /// Nothing more will come of it.
+    /// The callback has ended.
     Ended,
 }
 
-/// Hands bytes of the request to a stream, and tells whether it may take more now.
+/// Writes bytes of the request to a stream. Returns whether the stream may accept more now.
 fn hand_out<S: Write>(carrying: &mut Carrying, stream: &mut S) -> bool
     ensures same { IsOfSame carrying.old carrying.new }
     ensures out { HandsOut carrying.old carrying.new (S.contents stream.old) (S.contents stream.new) }
@@ -34,7 +34,7 @@ fn hand_out<S: Write>(carrying: &mut Carrying, stream: &mut S) -> bool
     true
 }
 
-/// Takes bytes of the response from a stream, and tells whether it may have more now.
+/// Reads bytes of the response from a stream. Returns whether the stream may have more now.
 fn take_in<S: Read>(carrying: &mut Carrying, stream: &mut S, buffer: &mut [u8]) -> bool
     ensures same { IsOfSame carrying.old carrying.new }
     ensures taken { TakesIn carrying.old carrying.new (S.remaining stream.old) (S.remaining stream.new) }
@@ -43,7 +43,7 @@ fn take_in<S: Read>(carrying: &mut Carrying, stream: &mut S, buffer: &mut [u8]) 
     match stream.read(&mut buffer[..room]) {
         Ok(0) => carrying.ended(),
         Ok(count) => {
-            // Where memory is refused for what came, the stream is as good as cut.
+            // If memory is refused for these bytes, the stream counts as cut.
             if !carrying.take(&buffer[..count]).unwrap_or(false) {
                 carrying.failed();
             }
@@ -57,7 +57,7 @@ fn take_in<S: Read>(carrying: &mut Carrying, stream: &mut S, buffer: &mut [u8]) 
     true
 }
 
-/// Moves bytes until the stream has to be waited for, or something has come of the callback.
+/// Moves bytes until the callback has to wait for its stream, or has ended.
 pub(crate) fn pump<S: Read + Write>(
     carrying: &mut Carrying,
     stream: &mut S,

@@ -8,39 +8,39 @@ use std::alloc::Global;
 use std::collections::VecDeque;
 use std::sync::{Arc, Mutex, Wait};
 
-/// A callback worker that takes part.
+/// Callback worker that takes part in the quota.
 #[derive(Drop)]
 struct Worker {
-    /// Bells of several workers.
+    /// Wakers of several workers.
     bells: Arc<Vec<Waker>>,
-    /// The place of its own among them.
+    /// Index of its own waker among them.
     place: usize,
-    /// Number of hosts at which it waits, or was called to.
+    /// Number of hosts at which it waits, or to which it was called.
     waits: usize,
-    /// Hosts that it was called to.
+    /// Hosts to which it was called.
     called: VecDeque<Called>,
 }
 
-/// A host that a worker waited for, by its own number.
+/// Host that a worker waited for, by the number that the worker gives it.
 #[derive(Clone, Copy)]
 pub(crate) struct Called {
     pub(crate) host: usize,
-    /// A flag, set where it has a permit. Else memory was refused, and it is to ask again.
+    /// Flag, set if the worker has a permit. Otherwise memory was refused, and the worker has to ask again.
     pub(crate) has_permit: bool,
 }
 
-/// Result of an ask for a permit.
+/// Result of a request for a permit.
 #[derive(Clone, Copy, Debug, PartialEq, Eq)]
 pub(crate) enum Asked {
-    /// The worker has one.
+    /// The worker has a permit.
     Given,
-    /// The worker is called once it has one.
+    /// The worker waits: the quota calls it once it has one.
     Pending,
-    /// Memory is refused: the worker is to ask again.
+    /// Memory was refused: the worker has to ask again.
     Refused,
 }
 
-/// The permits that are given, and who waits for one.
+/// Permits that are given, and the workers that wait for one.
 #[derive(Drop)]
 struct Permits {
     counts: Counts,
@@ -50,14 +50,14 @@ struct Permits {
 
 /// Quota of callbacks that go out at once, in all and to each host and port. All callback workers of a service share
 /// it: a worker asks for a permit for each connection, and gives it back. A permit that comes back goes to the worker
-/// that has waited longest for that host; where as many go out as may, hosts take turns.
+/// that has waited longest for that host. While as many callbacks go out as may, hosts take turns.
 #[derive(Drop)]
 pub struct Quota {
     permits: Mutex<Permits>,
 }
 
 impl Worker {
-    /// Returns whether there is room to call it to one host more.
+    /// Makes room to call the worker to one host more. Returns whether there is room.
     fn expect_call(&mut self) -> bool {
         let room = self.waits.saturating_add(1);
         let is_roomy = self
@@ -70,21 +70,21 @@ impl Worker {
         is_roomy
     }
 
-    /// Calls it.
+    /// Calls the worker to a host.
     fn call(&mut self, called: Called) {
         // There is room for all that it waits for.
         let _ = self.called.push_back(called);
     }
 
-    /// Wakes it.
+    /// Wakes the worker.
     fn wake(&self) {
         if let Some(bell) = self.bells.get(self.place) {
-            // Where it can't be woken it looks by itself.
+            // A worker that can't be woken polls by itself.
             let _ = bell.wake();
         }
     }
 
-    /// Returns what it was called to first.
+    /// Takes the worker's oldest call.
     fn take_call(&mut self) -> Option<Called> {
         let called = self.called.pop_front()?;
         self.waits = self.waits.saturating_sub(1);
@@ -93,7 +93,7 @@ impl Worker {
 }
 
 impl Permits {
-    /// Calls a worker to a host.
+    /// Calls a worker to a host, and wakes it unless it is `but`.
     fn call(&mut self, waiter: Waiter, has_permit: bool, but: usize) {
         if let Some(worker) = self.workers.get_mut(waiter.worker) {
             worker.call(Called {
@@ -106,7 +106,7 @@ impl Permits {
         }
     }
 
-    /// A worker asks for a permit, or waits for it.
+    /// Gives a worker a permit, or queues it for one.
     fn ask(&mut self, waiter: Waiter, socket: &str) -> Asked {
         if self.counts.enter(socket) {
             return Asked::Given;
@@ -131,7 +131,7 @@ impl Permits {
         Asked::Refused
     }
 
-    /// A permit comes back from a worker, and goes to who waits for it.
+    /// Takes a permit back from a worker, and gives it to a worker that waits for one.
     fn give_back(&mut self, from: usize, socket: &str) {
         let were_met = self.counts.are_met();
         self.counts.leave(socket);
@@ -153,7 +153,7 @@ impl Permits {
 }
 
 impl Quota {
-    /// A quota of so many permits, and so many to each host and port, but of one at least.
+    /// Makes a quota of so many permits, and so many to each host and port; at least one of each.
     pub fn new(alloc: Global, most: u32, each: u32) -> Quota {
         Quota {
             permits: Mutex::new(Permits {
@@ -164,7 +164,7 @@ impl Quota {
         }
     }
 
-    /// A worker takes part, which is woken by the bell at that place. Returns its number, unless memory is refused.
+    /// Adds a worker, which is woken by the waker at that index. Returns its number, or `None` if memory is refused.
     pub(crate) fn join<R: Wait>(
         &self,
         rt: &R,
@@ -181,27 +181,27 @@ impl Quota {
         self.permits.lock(rt).workers.insert(worker).ok()
     }
 
-    /// A worker asks for a permit to a host and port, which it knows by that number.
+    /// Asks for a permit to a host and port for a worker, which knows them by that number.
     pub(crate) fn ask<R: Wait>(&self, rt: &R, worker: usize, host: usize, socket: &str) -> Asked {
         self.permits.lock(rt).ask(Waiter { worker, host }, socket)
     }
 
-    /// A worker gives a permit back.
+    /// Takes a permit back from a worker.
     pub(crate) fn give_back<R: Wait>(&self, rt: &R, worker: usize, socket: &str) {
         self.permits.lock(rt).give_back(worker, socket);
     }
 
-    /// Returns what a worker was called to, if anything.
+    /// Takes a worker's oldest call, if there is one.
     pub(crate) fn take_call<R: Wait>(&self, rt: &R, worker: usize) -> Option<Called> {
         self.permits.lock(rt).workers.get_mut(worker)?.take_call()
     }
 
-    /// A worker waits for a host and port no longer. It may have been called before.
+    /// Removes a worker from the queue of a host and port. The worker may have been called before.
     pub(crate) fn withdraw<R: Wait>(&self, rt: &R, worker: usize, socket: &str) {
         self.permits.lock(rt).places.withdraw(worker, socket);
     }
 
-    /// A worker takes part no longer: it waits nowhere, and has given back what it had.
+    /// Removes a worker, which waits nowhere and has given all its permits back.
     pub(crate) fn part<R: Wait>(&self, rt: &R, worker: usize) {
         self.permits.lock(rt).workers.try_remove(worker);
     }

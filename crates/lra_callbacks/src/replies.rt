@@ -1,4 +1,4 @@
-//! Replies that are told of callbacks that have ended.
+//! Replies that are reported for callbacks that have ended.
 
 ghost use Rattle.std.specs.Prelude.{◌≡◌};
 ghost use Rattle.lra_callbacks.specs.inner.Replies as spec;
@@ -9,24 +9,24 @@ use lra_outcomes::Reply;
 use lra_wire::WireFault;
 use std::io::ErrorKind;
 
-/// End of a callback, as far as its socket tells.
+/// End of a callback, as far as its socket shows.
 #[derive(Clone, Copy, Debug, PartialEq, Eq)]
 pub(crate) enum End {
     /// The request wasn't sent.
     NotSent,
-    /// The rules for members don't let the address.
+    /// The rules for members don't allow the address.
     NotAllowed,
     /// The name of the host has no address.
     NoAddress,
-    /// The peer didn't take the connection.
+    /// The peer didn't accept the connection.
     NotConnected,
-    /// It took longer than so many milliseconds.
+    /// It took longer than this limit, in milliseconds.
     TimedOut { limit: u64 },
-    /// Its connection was made, and nothing more comes of it.
+    /// Its connection was made, and nothing more comes from it.
     Heard,
 }
 
-/// Returns what is told of an end before anything came.
+/// Returns the reply for an end before any bytes came.
 fn reply_at(end: End) -> Reply
     ensures { result ≡ spec.reply_at end }
 {
@@ -42,7 +42,7 @@ fn reply_at(end: End) -> Reply
     }
 }
 
-/// Returns what is told of a fault.
+/// Returns the reply for a fault.
 fn reply_to(fault: CallFault) -> Reply
     ensures { result ≡ spec.reply_to fault }
 {
@@ -56,7 +56,7 @@ fn reply_to(fault: CallFault) -> Reply
     }
 }
 
-/// Returns what is told of a response of that code, if it didn't bring its member further.
+/// Returns the reply for a response with that code, or `None` if the response brought its member further.
 fn reply_with(outcome: Outcome, code: u16) -> Option<Reply>
     ensures { result ≡ spec.reply_with outcome code }
 {
@@ -68,8 +68,8 @@ fn reply_with(outcome: Outcome, code: u16) -> Option<Reply>
     }
 }
 
-/// Returns what is told of a callback that ended so, by what came of its bytes, and by the code of the response.
-/// Nothing is told of one that brought its member further.
+/// Returns the reply for a callback by its end, what came of its bytes, and the code of the response. Returns `None` if
+/// the callback brought its member further.
 pub(crate) fn reply_of(
     end: End,
     told: Option<Result<Outcome, CallFault>>,
@@ -87,7 +87,7 @@ pub(crate) fn reply_of(
     }
 }
 
-/// Returns how a callback ended whose socket couldn't be had, by the system's reason.
+/// Returns the end of a callback whose socket couldn't be opened, by the system's error.
 pub(crate) fn end_of(kind: ErrorKind) -> End {
     match kind {
         ErrorKind::ConnectionRefused

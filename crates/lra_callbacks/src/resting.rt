@@ -3,10 +3,10 @@
 ghost use Rattle.std.specs.Prelude.{◌≡◌};
 ghost use Rattle.lra_callbacks.specs.inner.Resting.{rest, most_rest, rest_before};
 
-/// Largest number of milliseconds that a callback worker waits for its sockets before it looks at its office again.
+/// Largest number of milliseconds that a callback worker waits for its sockets before it polls its office again.
 pub(crate) const REST_MS: u64 = 1_000;
 
-/// Largest number where it has no room for what is due, or has to look at the time before.
+/// Largest number if it has no room for what is due, or has to look at the time before.
 pub(crate) const SHORT_REST_MS: u64 = 50;
 
 fn most_rest(has_room: bool, is_watchful: bool) -> u64
@@ -19,8 +19,8 @@ fn most_rest(has_room: bool, is_watchful: bool) -> u64
     }
 }
 
-/// Returns how long a callback worker may wait for its sockets at a moment of its office's clock, where something is
-/// due next at that other one, if anything is.
+/// Returns how many milliseconds a callback worker may wait for its sockets at a moment of its office's clock, if
+/// something is due next at that other moment.
 pub(crate) fn rest_for(next: Option<u64>, now: u64, has_room: bool, is_watchful: bool) -> u64
     ensures { result ≡ rest next now has_room is_watchful }
 {
@@ -31,7 +31,7 @@ pub(crate) fn rest_for(next: Option<u64>, now: u64, has_room: bool, is_watchful:
     }
 }
 
-/// Returns how long it may where it may so long, and something goes on at that moment.
+/// Returns the shorter of a rest and the time until a moment at which something goes on.
 pub(crate) fn rest_before(rest: u64, moment: u64, now: u64) -> u64
     ensures { result ≡ rest_before rest moment now }
 {

@@ -1,29 +1,29 @@
-//! Share that one of several callback workers has of what is under way.
+//! Quota of errands that one of several callback workers has.
 
 ghost use Rattle.std.specs.Prelude.{◌≡◌, ◌/◌, max};
 
-/// Number of errands that all callback workers hold, those that wait among them.
+/// Number of errands that all callback workers together hold, including those that wait.
 const MOST_HELD: u32 = 16_384;
 
-/// Time that a callback may take, in milliseconds.
+/// Time-outs of a callback, in milliseconds.
 #[derive(Clone, Copy, Debug, PartialEq, Eq)]
 pub struct Patience {
-    /// Time that a member has to take the connection.
+    /// Time until the member has to have accepted the connection.
     pub connect: u64,
-    /// Time that it has in all, until the whole reply has come.
+    /// Time until the whole reply has to have come, also from when the callback began to connect.
     pub reply: u64,
 }
 
-/// Number of errands that one of several callback workers has under way, and for how long.
+/// Quota of errands that one of several callback workers has, and their time-outs.
 #[derive(Clone, Copy, Debug, PartialEq, Eq)]
 pub struct Share {
-    /// Number of errands that it holds, those that wait among them.
+    /// Number of errands that the worker holds, including those that wait.
     pub held: u32,
     pub patience: Patience,
 }
 
 impl Share {
-    /// The share of each of so many callback workers: one errand at least.
+    /// Returns the quota of each of so many callback workers: at least one errand.
     pub fn of(workers: u32, patience: Patience) -> Share
         ensures held { result.held ≡ max (16_384 / max workers 1) 1 }
         ensures patience { result.patience ≡ patience }

@@ -1,4 +1,4 @@
-//! Which members were silent, and since when.
+//! Members that were silent, and since when.
 
 ghost use Rattle.std.specs.Prelude.{◌≡◌, ◌≢◌, ℕ, None, nat_eq};
 ghost use Rattle.std.specs.HashMap.{get};
@@ -10,14 +10,15 @@ use lra_model::{AskKind, Direction, Outcome};
 use std::alloc::Global;
 use std::collections::HashMap;
 
-/// That a member was silent when it was asked in a stage, and until when it was waited for, in milliseconds.
+/// Silence of a member that was asked in a stage, and the moment until which its callback waited for it, in
+/// milliseconds.
 #[derive(Clone, Copy, Debug, PartialEq, Eq)]
 pub(crate) struct Silence {
     stage: AskKind,
     moment: u64,
 }
 
-/// The stage that an errand's ask belongs to.
+/// Returns the stage that an errand's ask belongs to.
 fn stage_of(errand: &Errand) -> AskKind
     ensures { result ≡ wants.stage_of errand.now.kind errand.now.direction }
 {
@@ -28,21 +29,21 @@ fn stage_of(errand: &Errand) -> AskKind
     }
 }
 
-/// Tells whether an ask of that stage is one again of a member that was silent so.
+/// Returns whether an ask of that stage repeats one to which the member was silent.
 fn is_again(silence: &Silence, stage: AskKind) -> bool
     ensures { result ≡ is_again silence.now stage }
 {
     silence.stage == stage
 }
 
-/// The members that were silent when they were asked last, by number.
+/// Members that were silent when they were asked last, by number.
 #[derive(Drop)]
 pub(crate) struct Silences {
     by_member: HashMap<u64, Silence>,
 }
 
 impl Silences {
-    /// None was.
+    /// Makes an empty set: no member was silent.
     pub(crate) fn new(alloc: Global) -> Silences
         ensures { (member : ℕ) → get nat_eq result.by_member member ≡ None }
     {
@@ -51,8 +52,8 @@ impl Silences {
         }
     }
 
-    /// From when on an errand's member may be asked, with so many milliseconds between two asks in one stage. Where it
-    /// wasn't silent in that stage it may be at any time.
+    /// Returns the moment from which an errand's member may be asked, with so many milliseconds between two asks in one
+    /// stage. Returns `None` if the member wasn't silent in that stage: it may be asked at any time.
     pub(crate) fn until(&self, errand: &Errand, pause: u64) -> Option<u64>
         ensures { result ≡ again (get nat_eq self.now.by_member errand.now.member)
             (wants.stage_of errand.now.kind errand.now.direction) pause }
@@ -65,7 +66,7 @@ impl Silences {
         }
     }
 
-    /// Notes what came of an errand at a moment. Where memory is refused its member counts as one that wasn't silent.
+    /// Notes the outcome of an errand at a moment. If memory is refused, the member counts as one that wasn't silent.
     pub(crate) fn note(&mut self, errand: &Errand, outcome: Outcome, moment: u64)
         ensures own { Notes errand.now outcome moment (get nat_eq self.new.by_member errand.now.member) }
         ensures others { (other : ℕ) → other ≢ errand.now.member → get nat_eq self.new.by_member other

@@ -1,4 +1,4 @@
-//! Callbacks that wait, since their members were silent.
+//! Back-off of callbacks whose members were silent.
 
 ghost use Rattle.std.specs.Prelude.{◌≡◌};
 ghost use Rattle.lra_callbacks.specs.inner.Silences as spec;
@@ -22,8 +22,8 @@ fn is_near_end(moment: u64) -> bool
     u64::MAX - moment <= LAST_PAUSE_MS
 }
 
-/// Returns how many milliseconds there are at least between two asks of a silent member, where the office's clock is at
-/// a moment, and so many are told.
+/// Returns the least number of milliseconds between two asks of a silent member, by the pause that the journal's owner
+/// set and the moment of the office's clock.
 fn pause_at(told: u64, moment: u64) -> u64
     ensures { result ≡ spec.pause_at told moment }
 {
@@ -34,7 +34,7 @@ fn pause_at(told: u64, moment: u64) -> u64
     }
 }
 
-/// Returns as what an outcome counts, where the office's clock is at a moment.
+/// Returns the outcome that an outcome counts as at a moment of the office's clock.
 fn heard_at(outcome: Outcome, moment: u64) -> Outcome
     ensures { result ≡ spec.heard_at outcome moment }
 {
@@ -44,22 +44,22 @@ fn heard_at(outcome: Outcome, moment: u64) -> Outcome
     }
 }
 
-/// Which members were silent, and the callbacks that wait since theirs was: a journal that is nearly full doesn't ask
-/// so often, and none does near the end of its clock. All moments are in milliseconds, and but for the office's by one
-/// clock, a steady one.
+/// Back-off of a journal's callbacks: the members that were silent, and the callbacks that wait since their members
+/// were. A journal that is nearly full, or near the end of its clock, asks silent members less often. All moments are
+/// in milliseconds. All but the office's are by one steady clock.
 #[derive(Drop)]
 pub(crate) struct Sparing<'a> {
-    /// Least time between two asks of a silent member. The owner of the journal may change that.
+    /// Least number of milliseconds between two asks of a silent member. The owner of the journal may change it.
     least_pause: &'a AtomicU64,
     /// The moment of the office's clock that was read last.
     office: u64,
     silences: Silences,
-    /// The callbacks that wait, by the moment until which they do and the place of their errands.
+    /// Callbacks that wait, by the moment until which they wait and the slot of their errands.
     waiting: BTreeSet<(u64, usize)>,
 }
 
 impl<'a> Sparing<'a> {
-    /// No member was silent.
+    /// Makes a back-off in which no member was silent.
     pub(crate) fn new(alloc: Global, least_pause: &'a AtomicU64) -> Sparing<'a> {
         Sparing {
             least_pause,
@@ -69,7 +69,7 @@ impl<'a> Sparing<'a> {
         }
     }
 
-    /// Returns how long there is at least between two asks of a silent member.
+    /// Returns the least number of milliseconds between two asks of a silent member.
     fn pause(&self) -> u64 {
         pause_at(self.least_pause.load(Ordering::SeqCst), self.office)
     }
@@ -81,18 +81,18 @@ impl<'a> Sparing<'a> {
         self.office = moment;
     }
 
-    /// Tells whether any member is spared.
+    /// Returns whether there is any back-off.
     pub(crate) fn is_on(&self) -> bool {
         self.pause() > 0
     }
 
-    /// Returns how many callbacks wait.
+    /// Returns the number of callbacks that wait.
     pub(crate) fn count(&self) -> usize {
         self.waiting.len()
     }
 
-    /// Holds a callback back, where its errand's member is spared at a moment. Returns whether it does: where memory is
-    /// refused it doesn't.
+    /// Defers a callback if its errand's member is in back-off at a moment. Returns whether it does: it doesn't if
+    /// memory is refused.
     pub(crate) fn holds(&mut self, key: usize, errand: &Errand, now: u64) -> bool {
         match self.silences.until(errand, self.pause()) {
             Some(until) if now < until => self.waiting.insert((until, key)).is_ok(),
@@ -100,13 +100,13 @@ impl<'a> Sparing<'a> {
         }
     }
 
-    /// Holds a callback back until a moment, of which the greatest never comes. Returns whether it does: where memory
-    /// is refused it doesn't.
+    /// Defers a callback until a moment, of which the greatest never comes. Returns whether it does: it doesn't if
+    /// memory is refused.
     pub(crate) fn holds_until(&mut self, key: usize, until: u64) -> bool {
         self.waiting.insert((until, key)).is_ok()
     }
 
-    /// The moment at which the first waits no longer.
+    /// Returns the moment at which the first callback's wait ends.
     pub(crate) fn first(&self) -> Option<u64> {
         match self.waiting.first() {
             Some((until, _)) => Some(*until),
@@ -114,7 +114,7 @@ impl<'a> Sparing<'a> {
         }
     }
 
-    /// A callback that waits no longer at a moment, if there is one.
+    /// Takes a callback whose wait has ended at a moment, if there is one.
     pub(crate) fn release(&mut self, now: u64) -> Option<usize> {
         if now < self.first()? {
             return None;
@@ -123,8 +123,8 @@ impl<'a> Sparing<'a> {
         Some(key)
     }
 
-    /// Notes what came of an errand at a moment. A member that is at it is asked again as one that was silent is, so
-    /// near the end of the office's clock it is spared like that one.
+    /// Notes the outcome of an errand at a moment. A member that is still at it is asked again like a silent one, so
+    /// near the end of the office's clock it backs off like a silent one.
     pub(crate) fn note(&mut self, errand: &Errand, outcome: Outcome, now: u64) {
         self.silences
             .note(errand, heard_at(outcome, self.office), now);

@@ -1,4 +1,4 @@
-//! The sockets that are open, and the times that they have.
+//! Sockets that are open, and their time limits.
 
 use crate::hosts::Hosts;
 use crate::names::steady_now;
@@ -13,30 +13,30 @@ use std::net::Net;
 use std::sync::Wait;
 use std::time::{Clock, Duration};
 
-/// The token of what rings.
+/// Token of the waker.
 const BELL: Token = Token(usize::MAX);
 
-/// Largest number of events that one look at the sockets finds.
+/// Largest number of events that one poll of the sockets finds.
 const MOST_EVENTS: usize = 1_024;
 
 /// Number of bytes that are read at once.
 const BUFFER: usize = 1 << 16;
 
-/// A poll, and what rings there from other threads: a carrier that waits then looks at its office.
+/// Makes a poll, and a waker that ends its wait from other threads: a callback worker that waits then polls its office.
 pub fn bell<R: Net>(rt: &R) -> io::Result<(Poll, Waker)> {
     let poll = Poll::new(rt)?;
     let waker = Waker::new(poll.registry(), BELL)?;
     Ok((poll, waker))
 }
 
-/// Rings all of them: where one can't be rung, who waits there looks by itself.
+/// Wakes the callback workers of all these wakers. A worker that can't be woken polls by itself.
 pub fn ring(bells: &[Waker]) {
     for bell in bells {
         let _ = bell.wake();
     }
 }
 
-/// Memory for events, for bytes that are read, and for the places of what was reported.
+/// Buffers for events, for bytes that are read, and for the slots whose sockets were reported.
 #[derive(Drop)]
 struct Buffers {
     events: Events,
@@ -54,27 +54,29 @@ impl Buffers {
     }
 }
 
-/// Traffic at the sockets, apart from the errands themselves. Each is named by the place of its errand.
+/// Sockets and queues of the callbacks, apart from the errands themselves. Each callback is named by the slot of its
+/// errand.
 #[derive(Drop)]
 pub(crate) struct Traffic {
     pub(crate) poll: Poll,
     events: Events,
     pub(crate) buffer: Vec<u8>,
     pub(crate) hosts: Hosts,
-    /// Until when each socket has time.
+    /// Moments at which the time of sockets is up.
     agenda: Agenda,
-    /// Those whose sockets were reported.
+    /// Callbacks whose sockets were reported.
     pub(crate) reported: Vec<usize>,
-    /// Those that wait for the disk, oldest first.
+    /// Callbacks that wait for the sync of their journal, oldest first.
     pub(crate) unkept: VecDeque<usize>,
-    /// Those of which something has come, or nothing will.
+    /// Callbacks that have ended.
     pub(crate) ended: VecDeque<usize>,
     /// The moment that was read last, in milliseconds.
     now: u64,
 }
 
 impl Traffic {
-    /// None is open, for a worker that has that number at the quota. Where memory is refused the poll comes back.
+    /// Makes the traffic of the worker that has that number at the quota; no socket is open. Returns the poll if memory
+    /// is refused.
     pub(crate) fn new(alloc: Global, poll: Poll, worker: usize) -> Result<Traffic, Poll> {
         let Some(buffers) = Buffers::new(alloc) else {
             return Err(poll);
@@ -97,7 +99,7 @@ impl Traffic {
         })
     }
 
-    /// The moment: where the clock can't be read it stands still.
+    /// Returns the moment, in milliseconds. It stands still if the clock can't be read.
     pub(crate) fn moment<R: Clock>(&mut self, rt: &R) -> u64 {
         if let Some(now) = steady_now(rt) {
             if self.now < now {
@@ -118,20 +120,20 @@ impl Traffic {
             .ok()
     }
 
-    /// One that waited for its time waits for the disk, before all others: it keeps what that one has to, and there is
-    /// room for all.
+    /// Queues a callback after its back-off, before all others that wait for the sync: its own position is durable
+    /// already. The queue has room for all.
     pub(crate) fn go_on(&mut self, key: usize) {
         let _ = self.unkept.push_front(key);
     }
 
-    /// One waits for its host. Where memory is refused, nothing comes of it.
+    /// Queues a callback for its host. Ends it if memory is refused.
     pub(crate) fn enlist(&mut self, key: usize, socket: String) {
         if !self.hosts.enlist(key, socket) {
             self.end(key);
         }
     }
 
-    /// Waits so long at most for something to be reported, and takes it down.
+    /// Waits for events for so many milliseconds at most, and notes which sockets were reported.
     pub(crate) fn wait(&mut self, millis: u64) {
         self.reported.clear();
         let timeout = Some(Duration::from_millis(millis));
@@ -146,32 +148,32 @@ impl Traffic {
         }
     }
 
-    /// Tells whether a callback worker has to look at the time while it rests: a socket's time is up then, or a host's
-    /// name is waited for, or memory was refused for a permit.
+    /// Returns whether a callback worker has to look at the time while it rests: a socket's time is up then, a host
+    /// waits for the look-up of its name, or memory was refused for a permit.
     pub(crate) fn has_to_look(&self) -> bool {
         let end = self.now.saturating_add(REST_MS);
         self.hosts.are_open() || self.agenda.first_due(end).is_some()
     }
 
-    /// A socket has time until then. Where memory is refused it has none.
+    /// Gives a socket time until a moment. Returns whether it did: it doesn't if memory is refused.
     pub(crate) fn allow(&mut self, key: usize, until: u64) -> bool {
         self.agenda.set_limit(key as u64, until).is_ok()
     }
 
-    /// A socket whose time is up.
+    /// Takes a socket whose time is up, if there is one, and drops its limit.
     pub(crate) fn late(&mut self, now: u64) -> Option<usize> {
         let key = self.agenda.first_due(now)?;
         self.agenda.drop_limit(key);
         usize::try_from(key).ok()
     }
 
-    /// A socket was closed.
+    /// Drops the limit of a socket that was closed, and gives its permit back.
     pub(crate) fn close<R: Wait>(&mut self, rt: &R, quota: &Quota, key: usize, host: usize) {
         self.agenda.drop_limit(key as u64);
         self.hosts.leave(rt, quota, host);
     }
 
-    /// Something has come of an errand, or nothing will.
+    /// Queues a callback that has ended.
     pub(crate) fn end(&mut self, key: usize) {
         let _ = self.ended.push_back(key);
     }

@@ -1,4 +1,4 @@
--- The office of a journal that an opening was fed.
+-- Office of a journal that an opening was fed.
 use Rattle.std.proofs.Common.{◌≡◌, ℕ, List, [], ◌∷◌, Option, refl, sym, subst}
 use Rattle.lra_model.specs.History.{History}
 use Rattle.lra_ticket.specs.declared.kept.Kept.{Ghosts}
@@ -12,14 +12,14 @@ use Rattle.lra_office.specs.Reopened.{IsFrontOf, IsReopened}
 use Rattle.lra_office.specs.Wholes.{whole_lines}
 use Rattle.lra_opening.specs.Opened.{IsBegun, GoesOn}
 
--- of no bytes it is new
+-- if the journal has no bytes, the office is new
 pub begun_of : {X : Type 0} {k : Ghosts X Origin} (base : List ℕ) (limits : Limits) (bytes : List ℕ) (moment : ℕ)
     (had : Option (List ℕ)) (office : OfficeOf X Origin) (clerk : Clerk X Origin k) → bytes ≡ []
     → IsBegun (new_origin moment base limits had) moment office clerk → GoesOn base limits bytes moment had office clerk
 begun_of base limits bytes moment had office clerk none h = subst (λ (b : List ℕ). GoesOn base limits b moment had
     office clerk) (sym none) h
 
--- of others it goes on from their whole lines
+-- otherwise the office goes on from the whole lines
 pub goes_on : {X : Type 0} {k : Ghosts X Origin} (base : List ℕ) (limits : Limits) (bytes front : List ℕ) (moment : ℕ)
     (had : Option (List ℕ)) (office : OfficeOf X Origin) (clerk : Clerk X Origin k) → (bytes ≡ [] → ⊥)
     → whole_lines bytes ≡ front → (g : Setting) × (J : History) × IsFrontOf base limits front g J

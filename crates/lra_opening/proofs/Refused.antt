@@ -1,4 +1,4 @@
--- What an audit says of a journal that an opening was fed.
+-- Result of an audit of a journal that an opening was fed.
 use Rattle.std.proofs.Common.{◌≡◌, ℕ, List, Option, refl, sym, subst}
 use Rattle.lra_model.specs.declared.rule.Rule.{Rule}
 use Rattle.lra_model.specs.declared.version.Version.{Version}
@@ -13,7 +13,7 @@ use Rattle.lra_audits.specs.Report.{ReportsAudit}
 use Rattle.lra_opening.specs.Ends.{IsFoundSound, IsRefused}
 use Rattle.lra_opening.specs.Places.{IsRead}
 
--- where its whole lines have a fault, the journal is refused
+-- if the whole lines have a fault, the journal is refused
 pub refused : (found before after : Option (List ℕ)) (o : Fed) (line : ℕ) (rule : Rule) (status : ℕ) → IsRead found o
     → IsFault o.front line rule
     → ((input : List ℕ) → IsFault input line rule → ReportsAudit input status before after) → status ≡ 1
@@ -26,7 +26,7 @@ refused found before after o line rule status read fault reported one = record {
   unsound = one;
 }
 
--- where they are the text of a legal history, an audit finds them sound
+-- if the whole lines are the text of a legal history, an audit finds them sound
 pub found_sound : (bytes : List ℕ) (o : Fed) → IsFed bytes o → (v : Version) × (i : ℕ) × (J : History)
     × IsTextOf v i J o.front → IsFoundSound (whole_lines bytes)
 found_sound bytes o fed (v, i, J, text) =

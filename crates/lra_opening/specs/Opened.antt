@@ -1,4 +1,4 @@
--- What is known of the office that a service opens.
+-- Office that a service opens.
 use Rattle.std.specs.Prelude.{ℕ, List, [], ◌∷◌, Option}
 use Rattle.lra_model.specs.History.{History}
 use Rattle.lra_ticket.specs.declared.kept.Kept.{Ghosts}
@@ -16,16 +16,16 @@ use Rattle.lra_office.specs.Reopened.{IsFrontOf, IsReopened}
 use Rattle.lra_office.specs.Windows.{IsOfficeOf}
 use Rattle.lra_office.specs.Wholes.{whole_lines}
 
--- a new office of an origin, and its first clerk, which has enrolled
+-- a new office of an origin, and its first clerk, which is enrolled
 pub record IsBegun {X : Type 0} {g : Ghosts X Origin} (o : Origin) (moment : ℕ) (office : OfficeOf X Origin)
     (clerk : Clerk X Origin g) : Type 0 where
   pub known : IsClerkOf office.lock has_text clerk
   pub copies : IsOfficeOf o.setting office
   pub enrolled : IsEnrolled o.setting (first_view 0 o []) moment clerk.number (clerk_view clerk)
 
--- the office of a journal's bytes, at a base and with these limits, and its first clerk, where the writer had taken
--- this before: it goes on from just their whole lines; or, of no bytes, it is new, and its instance is the moment (this
--- project's choice)
+-- the office of a journal's bytes, at a base and with these limits, and its first clerk; the writer had accepted these
+-- other bytes before. The office goes on from just the whole lines. If the journal has no bytes, the office is new, and
+-- its instance is the moment (this project's choice).
 abbrev pub GoesOn : {X : Type 0} {g : Ghosts X Origin} → List ℕ → Limits → List ℕ → ℕ → Option (List ℕ)
     → OfficeOf X Origin → Clerk X Origin g → Type 0
 GoesOn base limits [] moment had office clerk = IsBegun (new_origin moment base limits had) moment office clerk

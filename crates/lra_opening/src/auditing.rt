@@ -1,4 +1,4 @@
-//! The audit of what was found where a journal is kept.
+//! Audit of the journal that was found.
 
 ghost use Rattle.std.specs.Prelude.{◌≡◌, ◌⊎◌, ℕ, List, [], Option, None, IfSome, IfOk, IfErr};
 ghost use Rattle.lra_core.specs.Fed.{IsFed};
@@ -14,15 +14,15 @@ use lra_core::Opening;
 use std::alloc::Global;
 use std::io::Write;
 
-/// Audits what was found where a journal is kept: nothing is told where it can be served. Else that is the fault, or
-/// the audit was written as `lra audit` does, with the program's status.
+/// Audits the journal that was found. Returns `None` if it can be served, and writes nothing then. Otherwise returns
+/// the fault, or writes the audit as `lra audit` does and returns the program's status.
 pub fn refuse<W: Write>(
     alloc: Global,
     opening: &Opening,
     writer: &mut W,
 ) -> Option<Result<u8, ServeFault>>
     ensures sound { result ≡ None → W.contents writer.new ≡ W.contents writer.old }
-    // Nothing is passed over: what can be served is no journal yet, or one whose whole lines an audit finds sound.
+    // Nothing unsound is served: there is no journal yet, or its whole lines are ones that an audit finds sound.
     ensures audited { (b : List ℕ) → IsFed b opening.now → result ≡ None → (b ≡ []) ⊎ IsFoundSound (whole_lines b) }
     ensures unsound { (found : Option (List ℕ)) → IsRead found opening.now
         → IfSome result (λ told. IfOk told (IsRefused found (W.contents writer.old) (W.contents writer.new))) }

@@ -1,4 +1,4 @@
-//! Why nothing is served.
+//! Faults for which nothing is served.
 
 ghost use Rattle.std.specs.Prelude.{◌≡◌, IfOk, string_bytes};
 ghost use Rattle.lra_opening.specs.Faults.{fault_line, enrol_fault, IsOfNoScript};
@@ -60,7 +60,7 @@ impl<T: Drop> From<AllocFailed<T>> for ServeFault {
     }
 }
 
-/// Why nothing is served, where that is what keeps a clerk from being enrolled.
+/// Returns why nothing is served, from the refusal that keeps a clerk from being enrolled.
 pub fn enrol_fault(refusal: OfficeRefusal) -> ServeFault
     ensures fault { result ≡ enrol_fault refusal }
     ensures other { IsOfNoScript result }
@@ -72,7 +72,7 @@ pub fn enrol_fault(refusal: OfficeRefusal) -> ServeFault
     }
 }
 
-/// The line on standard error for a fault. Standard output is written `-`.
+/// Returns the line on standard error for a fault. Standard output is written `-`.
 pub fn fault_line(
     alloc: Global,
     fault: ServeFault,

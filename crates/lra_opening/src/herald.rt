@@ -1,12 +1,12 @@
-//! Whom a service tells of what it does and of what becomes of its threads.
+//! Notifiers, which get lines about a service and its threads.
 
-/// Whom a service tells of what it does.
+/// Notifier, which gets lines about what a service does.
 pub trait Herald {
-    /// Tells a line.
+    /// Reports a line.
     fn tell(&self, line: &str);
 }
 
-/// Herald that tells nothing.
+/// Notifier that drops all lines.
 #[derive(Clone, Copy, Debug)]
 pub struct Silence;
 
@@ -14,7 +14,7 @@ impl Herald for Silence {
     fn tell(&self, _line: &str) {}
 }
 
-/// Herald that tells on standard error.
+/// Notifier that writes to standard error.
 #[derive(Drop)]
 pub struct Aloud<'a, R> {
     pub rt: &'a R,
@@ -22,12 +22,12 @@ pub struct Aloud<'a, R> {
 
 impl<R: Eprint> Herald for Aloud<'_, R> {
     fn tell(&self, line: &str) {
-        // Where nobody hears it nothing else can be done.
+        // If standard error can't be written, nothing else can be done.
         let _ = eprint!(self.rt; "{line}");
     }
 }
 
-/// Herald that tells on standard error where somebody watches: where it is a terminal.
+/// Notifier that writes to standard error if that is a terminal.
 #[derive(Drop)]
 pub struct Watched<'a, R> {
     pub rt: &'a R,

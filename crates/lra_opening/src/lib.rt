@@ -1,5 +1,5 @@
-//! Preparation of a service before it serves: its journal's file found, locked, audited and cut to its whole lines, and
-//! the office that goes on from it; and the reasons why nothing is served.
+//! Preparation of a service before it serves: its journal's file is found, locked, audited and cut to its whole lines,
+//! and its office goes on from these. Also the faults for which nothing is served.
 #![tactic(auto)]
 
 mod auditing;

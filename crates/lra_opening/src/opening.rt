@@ -18,7 +18,7 @@ use std::alloc::Global;
 use std::io::Write;
 use std::sync::Wait;
 
-/// Why nothing is served, where that is what keeps a new office from being made.
+/// Returns why nothing is served, from the fault that keeps a new office from being made.
 fn start_fault(fault: StartFault) -> ServeFault
     ensures { IsOfNoScript result }
 {
@@ -28,7 +28,7 @@ fn start_fault(fault: StartFault) -> ServeFault
     }
 }
 
-/// Why nothing is served, where that is what keeps a journal from being gone on from.
+/// Returns why nothing is served, from the fault that keeps an office from going on from a journal.
 fn reopen_fault(fault: ReopenFault) -> ServeFault
     ensures { IsOfNoScript result }
 {
@@ -39,7 +39,7 @@ fn reopen_fault(fault: ReopenFault) -> ServeFault
     }
 }
 
-/// The instance of a new journal: the moment.
+/// Returns the instance of a new journal, which is the moment.
 fn instance_at(moment: u64) -> Result<Instance, ServeFault>
     ensures instance { IfOk result (λ instance. instance ≡ moment) }
     ensures fault { IfErr result IsOfNoScript }
@@ -50,7 +50,7 @@ fn instance_at(moment: u64) -> Result<Instance, ServeFault>
     }
 }
 
-/// An office with a new journal of an instance, and its first clerk.
+/// Returns an office with a new journal of an instance, and its first clerk.
 pub fn begin_office<W: Write + Drop, R: Wait>(
     rt: &R,
     alloc: Global,
@@ -81,7 +81,7 @@ pub fn begin_office<W: Write + Drop, R: Wait>(
     }
 }
 
-/// An office with a new journal, whose instance is the moment.
+/// Returns an office with a new journal, whose instance is the moment, and its first clerk.
 fn begin<W: Write + Drop, R: Wait>(
     rt: &R,
     alloc: Global,
@@ -105,7 +105,8 @@ fn begin<W: Write + Drop, R: Wait>(
     }
 }
 
-/// An office that goes on from the journal that an opening was fed, or begins one where there is none.
+/// Returns an office that goes on from the journal that an opening was fed, and its first clerk. If there is no journal
+/// yet, the office begins one.
 pub fn open_office<W: Write + Drop, R: Wait>(
     rt: &R,
     alloc: Global,

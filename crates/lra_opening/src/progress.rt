@@ -1,4 +1,4 @@
-//! Progress of reading a file, told once a second.
+//! Progress of reading a file, reported once a second.
 
 ghost use Rattle.std.specs.Prelude.{◌≡◌};
 
@@ -14,8 +14,8 @@ const PAUSE: u64 = 1;
 /// A megabyte, in bytes.
 const MEGABYTE: u64 = 1_000_000;
 
-/// A reader of a file that tells once a second how far it is. Of what is told nothing is promised: where the clock or
-/// memory fails there is one line less.
+/// Reader of a file that reports once a second how far it is. The reports aren't guaranteed: if the clock or memory
+/// fails, a line is missing.
 #[derive(Drop)]
 pub(crate) struct Progress<'a, F, R, H> {
     reader: F,
@@ -27,11 +27,11 @@ pub(crate) struct Progress<'a, F, R, H> {
     all: u64,
     /// Number of bytes that were read.
     read: u64,
-    /// The moment from which the next line is due, where the clock told one.
+    /// Moment from which the next line is due, if the clock could be read.
     due: Option<Instant>,
 }
 
-/// The moment a pause from now.
+/// Returns the moment of the next line: a pause from now. Returns `None` if the clock can't be read.
 fn next_due<R: Clock>(clock: &R) -> Option<Instant> {
     Instant::now(clock)
         .ok()?
@@ -39,7 +39,7 @@ fn next_due<R: Clock>(clock: &R) -> Option<Instant> {
 }
 
 impl<'a, F: Read, R: Clock, H: Herald> Progress<'a, F, R, H> {
-    /// A reader of the file of a name that has so many bytes.
+    /// Returns a reader of the file of a name that has so many bytes.
     pub(crate) fn new(
         reader: F,
         alloc: Global,
@@ -68,7 +68,7 @@ impl<'a, F: Read, R: Clock, H: Herald> Progress<'a, F, R, H> {
         }
     }
 
-    /// Tells how far it is.
+    /// Reports how far it is.
     fn tell(&self) {
         let (name, read, all) = (self.name, self.read / MEGABYTE, self.all / MEGABYTE);
         if let Ok(line) = format!(in self.alloc; "lra: reading {name}: {read} of {all} MB\n") {

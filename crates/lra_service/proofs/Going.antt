@@ -1,4 +1,4 @@
--- The office of a journal that an opening was fed.
+-- Office of a journal that an opening was fed.
 use Rattle.std.proofs.Common.{◌≡◌, ℕ, List, Option, subst}
 use Rattle.lra_ticket.specs.declared.kept.Kept.{Ghosts}
 use Rattle.lra_commands.specs.declared.limits.Limits.{Limits}
@@ -10,7 +10,7 @@ use Rattle.lra_opening.specs.Opened.{GoesOn}
 use Rattle.lra_opening.specs.Places.{IsRead}
 use Rattle.lra_service.specs.inner.Opened.{IsOpenAt}
 
--- it goes on from the bytes that were found, at the base and with the limits that are wanted
+-- the office goes on from the bytes that were found, at the base and with the limits that are wanted
 pub open_at : {X : Type 0} {k : Ghosts X Origin} (found : Option (List ℕ)) (wanted base : List ℕ) (most limits : Limits)
     (moment : ℕ) (o : Fed) (had : Option (List ℕ)) (office : OfficeOf X Origin) (clerk : Clerk X Origin k)
     → base ≡ wanted → limits ≡ most → IsRead found o → ((b : List ℕ) → IsFed b o

@@ -1,4 +1,4 @@
-//! The site of a service: the socket that it listens at, and what the identifiers that it gives begin with.
+//! Site of a service: the socket at which it listens, and the base of the identifiers that it gives.
 
 ghost use Rattle.std.specs.Prelude.{◌≡◌, true, false, None, Err, IfOk, IfErr};
 ghost use Rattle.lra_ids.specs.Addresses.{is_base};
@@ -16,13 +16,13 @@ use std::net::{Net, TcpListener};
 /// Site of a service.
 #[derive(Drop)]
 pub struct Site {
-    /// Base with which the identifiers begin that it gives.
+    /// Base of the identifiers that it gives.
     pub base: Base,
     /// Host and port of the socket that it listens at.
     pub socket: String,
 }
 
-/// The base of the identifiers that are served at an address, or why there is none.
+/// Returns the base of the identifiers that are served at an address, or why there is none.
 fn base_at(alloc: Global, to: &str) -> Result<Address, ServeFault>
     ensures text { IfOk result (λ base. base ≡ base_text to.now) }
     ensures base { IfOk result (λ base. is_base base ≡ true) }
@@ -36,7 +36,7 @@ fn base_at(alloc: Global, to: &str) -> Result<Address, ServeFault>
     }
 }
 
-/// The site whose identifiers begin with `http://`, its address and `/`, or why there is none.
+/// Returns the site whose identifiers begin with `http://`, its address and `/`, or why there is none.
 fn own_site(alloc: Global, to: &str) -> Result<Site, ServeFault>
     ensures base { IfOk result (λ site. site.base ≡ base_text to.now) }
     ensures own { IfOk result (λ _. is_base (base_text to.now) ≡ true) }
@@ -56,8 +56,8 @@ fn own_site(alloc: Global, to: &str) -> Result<Site, ServeFault>
     }
 }
 
-/// The site at an address, whose identifiers begin with a base of their own, if there is one: else with `http://`, the
-/// address and `/`.
+/// Returns the site at an address. Its identifiers begin with a base of their own if there is one, and otherwise with
+/// `http://`, the address and `/`.
 pub fn site_at(alloc: Global, to: &str, base: Option<Base>) -> Result<Site, ServeFault>
     ensures base { IfOk result (λ site. site.base ≡ base_served base to.now) }
     ensures own { base ≡ None → IfOk result (λ _. is_base (base_text to.now) ≡ true) }
@@ -76,7 +76,7 @@ pub fn site_at(alloc: Global, to: &str, base: Option<Base>) -> Result<Site, Serv
     }
 }
 
-/// A listener at a socket's host and port.
+/// Binds a listener to a socket's host and port.
 pub fn bind<R: Net>(rt: &R, socket: &str) -> Result<R::Listener, ServeFault>
     ensures { IfErr result IsOfAddress }
 {

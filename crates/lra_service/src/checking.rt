@@ -1,4 +1,4 @@
-//! A report of what would be served, with nothing served.
+//! Report of what would be served, without serving it.
 
 ghost use Rattle.std.specs.Prelude.{◌≡◌, ◌≢◌, IsFalse, IfOk, IsErrAnd};
 ghost use Rattle.lra_ids.specs.Addresses.{is_base};
@@ -36,7 +36,7 @@ pub fn put_text<W: Write>(
     Ok(put(writer, line.as_bytes())?)
 }
 
-/// Writes a line of the older bases, where there are any.
+/// Writes a line of the older bases, if there are any.
 pub fn put_olders<W: Write>(
     alloc: Global,
     olders: &[Base],
@@ -55,7 +55,7 @@ pub fn put_olders<W: Write>(
     Ok(put(writer, line.as_bytes())?)
 }
 
-/// Writes a line for each setting, but for a default limit where there is none.
+/// Writes a line for each setting, but none for a default limit that isn't set.
 pub fn put_settings<W: Write>(
     alloc: Global,
     settings: &Settings,
@@ -75,7 +75,7 @@ pub fn put_settings<W: Write>(
     Ok(put(writer, line.as_bytes())?)
 }
 
-/// Writes what a sound journal has.
+/// Writes the number of entries of a sound journal, or that the journal is new.
 pub fn put_journal<W: Write>(
     alloc: Global,
     opening: &Opening,
@@ -88,7 +88,7 @@ pub fn put_journal<W: Write>(
     }
 }
 
-/// Returns a fault unless a journal that was found so could be added to.
+/// Returns a fault unless the file that was found could be appended to.
 fn can_be_kept<P: Place>(place: &P, found: &Found<P::File>) -> Result<(), ServeFault> {
     match found {
         Found::Missing => place.sync_name(),
@@ -97,10 +97,10 @@ fn can_be_kept<P: Place>(place: &P, found: &Found<P::File>) -> Result<(), ServeF
     }
 }
 
-/// Writes what would be served at an address, a line each: the address, the name of the journal's file, the threads of
-/// a kind, what the journal has, and all settings. The place's file is found, locked and audited for that, as before it
-/// is served, and nothing is created, bound or written. Where the journal isn't sound, that is written as `lra audit`
-/// does. The answer is the program's status.
+/// Writes what would be served at an address, a line each: the address, the bases, the name of the journal's file, the
+/// number of workers of each kind, the number of the journal's entries, and all settings. Finds, locks and audits the
+/// file as before it is served, but creates, binds and changes nothing. If the journal isn't sound, writes the audit as
+/// `lra audit` does. Returns the program's status.
 pub fn check_place<P: Place, W: Write>(
     alloc: Global,
     address: &str,
@@ -141,7 +141,7 @@ pub fn check_place<P: Place, W: Write>(
     }
 }
 
-/// Writes what would be served, of a journal that could be.
+/// Writes what would be served, for a journal that could be served.
 fn tell<W: Write>(
     alloc: Global,
     address: &str,

@@ -1,4 +1,4 @@
-//! The descriptors that the system lets a service have, and what comes of that.
+//! Limit of descriptors that the system sets a service, and the settings that fit it.
 
 ghost use Rattle.std.specs.Prelude.{IfErr};
 ghost use Rattle.lra_opening.specs.Ends.{IsOfAddress};
@@ -11,10 +11,10 @@ use std::fs::File;
 use std::os::unix::fs::FileExt;
 use std::rt::Files;
 
-/// The bytes of the system's file of limits that are read.
+/// Number of bytes that are read of the system's file of limits.
 const PIECE: usize = 4_096;
 
-/// The number behind the name of the limit of open files, in the system's table of limits.
+/// Returns the number after the name of the limit of open files in the system's table of limits.
 fn limit_in(table: &str) -> Option<u64> {
     let (_, rest) = table.split_once("Max open files")?;
     rest.trim_ascii_start()
@@ -24,7 +24,7 @@ fn limit_in(table: &str) -> Option<u64> {
         .ok()
 }
 
-/// Returns how many descriptors this process may have, where the system tells that and it is limited.
+/// Returns the number of descriptors that this process may have, or `None` if the system reports no limit.
 fn descriptor_limit<R: Files<File = File>>(rt: &R) -> Option<u64> {
     let file = File::open(rt, "/proc/self/limits").ok()?;
     let mut piece = [0u8; PIECE];
@@ -32,7 +32,7 @@ fn descriptor_limit<R: Files<File = File>>(rt: &R) -> Option<u64> {
     limit_in(str::from_utf8(piece.as_slice().get(..count)?).ok()?)
 }
 
-/// Tells that connections and callbacks are fewer than asked for.
+/// Reports that connections and callbacks are fewer than asked for.
 fn tell_lowered<H: Herald + Journalist>(
     alloc: Global,
     herald: &H,
@@ -53,7 +53,7 @@ fn tell_lowered<H: Herald + Journalist>(
     });
 }
 
-/// Tells that there are too few descriptors to serve.
+/// Reports that there are too few descriptors to serve.
 fn tell_too_few<H: Herald>(alloc: Global, herald: &H, limit: u64, taken: u64) {
     let least = descriptors_needed(taken);
     let line = format!(in alloc;
@@ -64,8 +64,8 @@ fn tell_too_few<H: Herald>(alloc: Global, herald: &H, limit: u64, taken: u64) {
     }
 }
 
-/// Returns the settings with no more connections and callbacks than the system has descriptors for, where others take
-/// so many. Where these are fewer than asked for, or too few to serve, that is told.
+/// Returns the settings with no more connections and callbacks than there are descriptors for, beside the `taken` ones.
+/// If these are fewer than asked for, or too few to serve, reports that.
 pub fn fit_descriptors<R: Files<File = File>, H: Herald + Journalist>(
     rt: &R,
     alloc: Global,

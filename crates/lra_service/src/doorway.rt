@@ -1,4 +1,4 @@
-//! The acceptor of connections, until the service is to end.
+//! Acceptor of connections, until the service is to end.
 
 ghost use Rattle.std.specs.Prelude.{IfErr};
 ghost use Rattle.lra_opening.specs.Faults.{IsOfNoScript};
@@ -14,7 +14,7 @@ use std::net::{Net, TcpListener, TcpStream};
 use std::sync::Arc;
 use std::thread::Threads;
 
-/// Line at which connections come in, and the service's end.
+/// Acceptor: the listener, and the state of the service's end.
 #[derive(Drop)]
 pub struct Doorway {
     pub line: Line,
@@ -22,7 +22,7 @@ pub struct Doorway {
     pub ending: Arc<Ending>,
 }
 
-/// Returns the doorway of a listener.
+/// Returns the acceptor of a listener.
 fn doorway_at<R: Net>(rt: &R, alloc: Global, listener: TcpListener) -> Result<Doorway, ServeFault>
     ensures { IfErr result IsOfNoScript }
 {
@@ -38,7 +38,7 @@ fn doorway_at<R: Net>(rt: &R, alloc: Global, listener: TcpListener) -> Result<Do
     }
 }
 
-/// Returns the doorway of a listener. Where there is an input, the service ends gently once that has ended.
+/// Returns the acceptor of a listener. If there is an input, the service ends gently once the input has ended.
 pub fn make_doorway<
     R: Threads + Net<Stream = TcpStream, Listener = TcpListener>,
     I: Read + Send + Drop + 'static,

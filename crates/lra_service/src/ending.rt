@@ -1,4 +1,4 @@
-//! The end of a service.
+//! End of a service.
 
 ghost use Rattle.std.specs.Prelude.{◌≡◌, ◌⊎◌, IfOk, IfErr, OnOk};
 ghost use Rattle.std.specs.Io.KnownBytes.{Appends};
@@ -21,13 +21,13 @@ use std::thread::{Builder, Threads};
 /// Number of bytes of an input that are read at once, and dropped.
 const PIECE: usize = 256;
 
-/// State of a service's end: whether it is to end, or no connection worker answers any more, and the waker of the
-/// thread that waits for connections.
+/// State of a service's end: whether it is to end gently, whether no connection worker answers any more, and the waker
+/// of the thread that waits for connections.
 #[derive(Drop)]
 pub struct Ending {
-    /// It is to end gently.
+    /// Flag, set once it is to end gently.
     is_asked: AtomicBool,
-    /// No connection worker answers any more.
+    /// Flag, set once no connection worker answers any more.
     is_over: AtomicBool,
     bell: Waker,
 }
@@ -42,13 +42,13 @@ impl Ending {
         }
     }
 
-    /// Asks that it end gently, and wakes the thread that waits for connections.
+    /// Asks the service to end gently, and wakes the thread that waits for connections.
     pub fn ask(&self) {
         self.is_asked.store(true, Ordering::SeqCst);
         let _ = self.bell.wake();
     }
 
-    /// Returns whether it is to end gently.
+    /// Returns whether the service is to end gently.
     pub fn is_asked(&self) -> bool {
         self.is_asked.load(Ordering::SeqCst)
     }
@@ -84,8 +84,8 @@ fn read_out<I: Read>(input: &mut I) {
     }
 }
 
-/// Ends a service gently once an input has ended. A thread of its own waits for that. It is left to itself, so that
-/// it holds nobody up. Where it can't be started, nothing is served.
+/// Ends a service gently once an input has ended. A detached thread waits for the input, so that nothing waits for the
+/// thread. Fails if the thread can't be started: then nothing is served.
 pub fn watch<R: Threads, I: Read + Send + Drop + 'static>(
     rt: &R,
     ending: &Arc<Ending>,
@@ -111,7 +111,7 @@ pub fn watch<R: Threads, I: Read + Send + Drop + 'static>(
     }
 }
 
-/// Says that an address is served.
+/// Writes that an address is served.
 pub fn say<W: Write>(alloc: Global, address: &str, writer: &mut W) -> Result<(), ServeFault>
     ensures said { OnOk result (Appends (W.contents writer.old) (W.contents writer.new) (serving_line address.now)) }
     ensures fault { IfErr result (IsSaid address.now (W.contents writer.old) (W.contents writer.new)) }
@@ -125,8 +125,8 @@ pub fn say<W: Write>(alloc: Global, address: &str, writer: &mut W) -> Result<(),
     Ok(())
 }
 
-/// Returns how a service has ended that began: gently, where it was asked to, all that was written is durable, and
-/// the disk hasn't failed.
+/// Returns how a service has ended that began. It has ended gently if it was asked to, no sync has failed, and all that
+/// was written is durable.
 pub fn end_of<R: Wait, D: Disk>(
     rt: &R,
     journals: &Journals<D>,

@@ -1,4 +1,4 @@
-//! The acceptor of clients' connections.
+//! Dispatcher of clients' connections.
 
 ghost use Rattle.std.specs.Prelude.{◌≡◌};
 
@@ -13,13 +13,13 @@ use std::sync::{Arc, Mutex, Wait};
 use std::time::Duration;
 use std::{io, net};
 
-/// Milliseconds that pass before a connection is awaited again, once one couldn't be accepted.
+/// Number of milliseconds before the next attempt, once a connection couldn't be accepted.
 const PAUSE: u64 = 100;
 
-/// Number of connections that are accepted before it is looked whether the service is to end.
+/// Number of connections that are accepted between two checks of whether the service is to end.
 const MOST_AT_ONCE: u64 = 1_024;
 
-/// Most events that are reported at once.
+/// Largest number of events that are reported at once.
 const MOST_EVENTS: usize = 8;
 
 /// Token of the listener's events.
@@ -28,7 +28,7 @@ const LISTENER: Token = Token(0);
 /// Token of the waker's events.
 const BELL: Token = Token(1);
 
-/// A listener, and the poll that waits for its connections.
+/// Listener, and the poll that waits for its connections.
 #[derive(Drop)]
 pub struct Line {
     listener: TcpListener,
@@ -37,7 +37,7 @@ pub struct Line {
 }
 
 impl Line {
-    /// Returns the line of a listener, and the waker that ends a wait there.
+    /// Returns a listener with its poll, and the waker that ends a wait there.
     pub fn new<R: Net>(
         rt: &R,
         alloc: Global,
@@ -63,28 +63,28 @@ impl Line {
 #[derive(Drop)]
 enum Came {
     Connection(TcpStream),
-    /// None waits.
+    /// No connection waits.
     Nothing,
-    /// None could be accepted, since too many files are open.
+    /// No connection could be accepted, since too many files are open.
     Crowded,
-    /// None could be accepted for another reason.
+    /// No connection could be accepted, for another reason.
     Refused,
     /// The listener is gone.
     Gone,
 }
 
-/// A listener, and the threads to which its connections are handed.
+/// Dispatcher: a listener, and the accept queues of the connection workers that get its connections.
 #[derive(Drop)]
 pub struct Entrance<'a, R> {
     rt: &'a R,
-    /// Line of the listener, until the thread that waits there takes it.
+    /// Listener, until the thread that waits there takes it.
     line: Mutex<Option<Line>>,
     ending: &'a Arc<Ending>,
     arrivals: Vec<Arrivals>,
 }
 
 impl<'a, R: Wait> Entrance<'a, R> {
-    /// Returns an entrance whose connections go to the connection workers of these accept queues.
+    /// Returns a dispatcher whose connections go to the connection workers of these accept queues.
     pub fn new(
         rt: &'a R,
         line: Line,
@@ -106,7 +106,7 @@ impl<'a, R: Wait> Entrance<'a, R> {
         self.arrivals.get(place as usize)
     }
 
-    /// Returns how many connections there are.
+    /// Returns the number of connections.
     pub fn load(&self) -> u64 {
         let mut all: u64 = 0;
         for arrivals in self.arrivals.as_slice() {
@@ -118,8 +118,8 @@ impl<'a, R: Wait> Entrance<'a, R> {
         all
     }
 
-    /// Hands a connection to the thread that has the fewest. One whose socket can't be set up is closed, and so is one
-    /// for which there is no memory.
+    /// Hands a connection to the connection worker that has the fewest. Closes the connection if its socket can't be
+    /// set up or memory is refused.
     fn hand_on(&self, stream: TcpStream) {
         if stream.set_nodelay(true).is_err() {
             return;
@@ -133,15 +133,15 @@ impl<'a, R: Wait> Entrance<'a, R> {
         }
     }
 
-    /// Asks each thread to end the client that has been idle for longest.
+    /// Asks each connection worker to end the client that has been idle for longest.
     fn ask_room(&self) {
         for arrivals in self.arrivals.as_slice() {
             arrivals.ask_room();
         }
     }
 
-    /// Hands on the connections that wait. Tells how many milliseconds may pass before others are looked for, if no
-    /// event has to be waited for; or nothing, where the listener is gone.
+    /// Hands on the connections that wait. Returns how many milliseconds may pass before the next attempt, or
+    /// `Some(None)` if an event has to be waited for. Returns `None` if the listener is gone.
     fn take_all(&self, line: &Line) -> Option<Option<u64>> {
         for _connection in 0..MOST_AT_ONCE {
             match accept(&line.listener) {
@@ -158,8 +158,8 @@ impl<'a, R: Wait> Entrance<'a, R> {
         Some(Some(0))
     }
 
-    /// Hands on the connections that come, until the service is to end, or no connection worker answers any more, or
-    /// the listener is gone.
+    /// Hands on the connections that come, until the service is to end, no connection worker answers any more, or the
+    /// listener is gone.
     fn wait_at(&self, line: &mut Line) {
         let mut pause = Some(0);
         for _round in 0..u64::MAX {
@@ -175,9 +175,9 @@ impl<'a, R: Wait> Entrance<'a, R> {
         }
     }
 
-    /// Hands on the connections that come, until there are to be no others. Then the connection workers end: at once,
-    /// or once the replies that wait have left, where the service is to end gently. Where a connection can't be
-    /// accepted, as where too many files are open, those that have been idle for longest make room for it.
+    /// Hands on the connections that come, until there are to be no others. Then ends the connection workers: at once,
+    /// or once the waiting replies have left if the service is to end gently. If too many files are open to accept a
+    /// connection, the clients that have been idle for longest make room for it.
     pub fn open(&self) {
         let line = self.line.lock(self.rt).take();
         if let Some(mut line) = line {
@@ -191,14 +191,14 @@ impl<'a, R: Wait> Entrance<'a, R> {
         }
     }
 
-    /// No thread reads requests any more.
+    /// Stops the connection workers from reading requests.
     fn finish(&self) {
         for arrivals in self.arrivals.as_slice() {
             arrivals.finish(self.rt);
         }
     }
 
-    /// No thread answers any more.
+    /// Ends the connection workers: none answers any more.
     pub fn close(&self) {
         for arrivals in self.arrivals.as_slice() {
             arrivals.close(self.rt);
@@ -206,10 +206,10 @@ impl<'a, R: Wait> Entrance<'a, R> {
     }
 }
 
-/// The system's codes for too many open files: on the whole machine, and in this process.
+/// System's codes for too many open files: on the whole machine, and in this process.
 const CROWDED: [i32; 2] = [23, 24];
 
-/// Returns whether a fault says that too many files are open.
+/// Returns whether an error says that too many files are open.
 fn is_crowded(error: &io::Error) -> bool {
     match error.raw_os_error() {
         Some(code) => CROWDED.contains(&code),
@@ -217,7 +217,7 @@ fn is_crowded(error: &io::Error) -> bool {
     }
 }
 
-/// Accepts a connection.
+/// Tries to accept a connection.
 fn accept(listener: &TcpListener) -> Came {
     match listener.accept() {
         Ok((stream, _)) => Came::Connection(stream),

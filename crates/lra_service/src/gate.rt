@@ -1,4 +1,4 @@
-//! Gate of a callback worker, which tells what it may do.
+//! Gate of a callback worker, which decides what the worker may do.
 
 use crate::ending::Ending;
 use crate::stamina::{is_longest, pause_after};
@@ -13,36 +13,37 @@ use std::sync::{Arc, Wait};
 use std::thread;
 use std::time::{Clock, Duration, Instant};
 
-/// Number of seconds that what is under way has, once the service is to end.
+/// Number of seconds that errands under way have once the service is to end.
 const PARTING: u64 = 10;
 
-/// Gate of a callback worker: it lets turns be made as long as a connection worker is left. Once the service is to end,
-/// nothing is begun in them any more, and they are made until nothing is under way, 10 s after at most, unless the disk
-/// has failed. Where memory is refused it pauses, for longer each time in a row; once the pause is the longest, the
-/// journal's callbacks are noted to stand still, until a turn goes well.
+/// Gate of a callback worker. It lets the worker make turns as long as a connection worker is left. Once the service is
+/// to end, nothing is begun in a turn any more. Turns are made then until nothing is under way, for 10 s at most,
+/// unless a sync has failed. If memory is refused, the worker pauses, for longer each time in a row. Once the pause is
+/// the longest, the journal's callbacks are noted to stand still, until a turn goes well.
 #[derive(Drop)]
 pub struct CarrierGate<'a, R, G: SyncGroup, J> {
     rt: &'a R,
     ending: &'a Arc<Ending>,
-    /// The journals that are synced with its own.
+    /// Group of journals that are synced with its own.
     group: &'a G,
     /// Number of errands under way.
     under_way: &'a AtomicU64,
     tallies: &'a Tallies,
     journalist: &'a J,
-    /// The journal whose callbacks it carries.
+    /// Journal whose callbacks the worker makes.
     journal: Instance,
-    /// Until when turns are made, once the service is to end.
+    /// Moment until which turns are made once the service is to end.
     until: Option<Instant>,
-    /// Number of times in a row that memory was refused, and whether that is so since a turn was let be made.
+    /// Number of times in a row that memory was refused, and a flag, set if it was refused since the last turn began.
     refusals: u64,
     is_refused: bool,
-    /// A flag, set where the callbacks were noted to stand still.
+    /// Flag, set if the callbacks were noted to stand still.
     stands: bool,
 }
 
 impl<'a, R, G: SyncGroup, J> CarrierGate<'a, R, G, J> {
-    /// One of a carrier that tells there how many errands it has under way, of a journal.
+    /// Makes the gate of a callback worker for a journal. The worker stores the number of its errands under way in
+    /// `under_way`.
     pub fn new(
         rt: &'a R,
         ending: &'a Arc<Ending>,
@@ -67,7 +68,7 @@ impl<'a, R, G: SyncGroup, J> CarrierGate<'a, R, G, J> {
         }
     }
 
-    /// Notes that another turn begins. Where no memory was refused in the last one, that went well, and pauses begin
+    /// Notes that another turn begins. If no memory was refused in the last turn, that turn went well, and pauses begin
     /// anew.
     fn turn(&mut self) {
         if self.is_refused {
@@ -83,7 +84,7 @@ impl<'a, R, G: SyncGroup, J> CarrierGate<'a, R, G, J> {
 }
 
 impl<R, G: SyncGroup, J: Journalist> CarrierGate<'_, R, G, J> {
-    /// Notes that the callbacks stand still, where that wasn't noted.
+    /// Notes that the callbacks stand still, unless that is noted already.
     fn stand(&mut self) {
         if !self.stands {
             self.stands = true;
@@ -96,7 +97,7 @@ impl<R, G: SyncGroup, J: Journalist> CarrierGate<'_, R, G, J> {
 }
 
 impl<R: Wait + Clock, G: SyncGroup, J> CarrierGate<'_, R, G, J> {
-    /// Tells whether what is under way has some time left. Where the clock can't be read it has none.
+    /// Returns whether the errands under way have some time left. They have none if the clock can't be read.
     fn has_time(&mut self) -> bool {
         if self.until.is_none() {
             self.until = seconds_on(self.rt, PARTING).ok();

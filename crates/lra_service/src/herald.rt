@@ -1,4 +1,4 @@
-//! The reports of a service on its threads, and the listeners that get them.
+//! Reports of a service on its threads, and the notifiers and event sinks that get them.
 
 use lra_ids::Instance;
 use lra_logs::{Event, Journalist, Level, Logbook, Port};
@@ -26,7 +26,7 @@ impl Journalist for Quiet {
     fn note(&self, _event: &Event) {}
 }
 
-/// Listener to operators' requests that may not be made, which notes them in the log.
+/// Observer of operators' requests that are refused, which notes them in the log.
 #[derive(Drop)]
 pub struct Turnstile<'a, J> {
     pub journalist: &'a J,
@@ -41,7 +41,7 @@ impl<J: Journalist> Turned for Turnstile<'_, J> {
     }
 }
 
-/// A log, which is told the lines too that a service tells anyway.
+/// Log, which also gets the lines that a service reports anyway.
 #[derive(Drop)]
 pub struct Book<R> {
     pub log: Logbook<R>,
@@ -63,7 +63,7 @@ impl<R: Eprint + Clock + Wait> Journalist for Book<R> {
     }
 }
 
-/// Returns why a connection worker has ended, where the program's end doesn't say so.
+/// Returns a line on why a connection worker has ended, or `None` if the program's end says so.
 fn why_answered(end: RoundsEnd) -> Option<&'static str> {
     match end {
         RoundsEnd::Unkept | RoundsEnd::Closed => None,
@@ -74,8 +74,8 @@ fn why_answered(end: RoundsEnd) -> Option<&'static str> {
     }
 }
 
-/// Tells that a connection worker has ended though the service goes on, and why. Where it has ended with the service
-/// nothing is told.
+/// Reports that a connection worker has ended though the service goes on, and why. Reports nothing if it has ended with
+/// the service.
 pub fn lose_worker<H: Herald + Journalist>(herald: &H, tallies: &Tallies, end: RoundsEnd) {
     if let Some(line) = why_answered(end) {
         herald.tell(line);
@@ -84,8 +84,8 @@ pub fn lose_worker<H: Herald + Journalist>(herald: &H, tallies: &Tallies, end: R
     }
 }
 
-/// Tells that a callback worker has ended though the service goes on, and why; and where it was a journal's last one,
-/// that this journal's callbacks stand still. Where it has ended with the service nothing is told.
+/// Reports that a callback worker has ended though the service goes on, and why. If it was a journal's last one,
+/// reports that this journal's callbacks stand still. Reports nothing if it has ended with the service.
 pub fn lose_callback_worker<H: Herald + Journalist>(
     alloc: Global,
     herald: &H,

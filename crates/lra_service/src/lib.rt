@@ -1,5 +1,5 @@
 //! The coordinator as a running service: its journal's file, its sockets with their time-outs, and the threads that
-//! answer and ask.
+//! answer requests and make callbacks.
 #![tactic(auto)]
 
 mod base;

@@ -1,4 +1,4 @@
-//! The operators' view of an office.
+//! Operators' view of an office.
 
 use crate::shift::Shift;
 use lra_clocks::{Clock as Moments, SystemClock};
@@ -13,7 +13,7 @@ use std::alloc::Global;
 use std::sync::Wait;
 use std::time::Clock;
 
-/// View of the operators' thread: a window of the office, and what is known beside its history.
+/// Operators' view: a window of the office, and what is known beside its history.
 pub(crate) struct Lookout<'w, 's, 'a, V: Serving, R, L: WhichLock, H> {
     window: Window<'w, V, R, L>,
     shift: &'s Shift<'a, R, H>,
@@ -21,7 +21,7 @@ pub(crate) struct Lookout<'w, 's, 'a, V: Serving, R, L: WhichLock, H> {
     given: Given,
 }
 
-/// A refusal of an office, as a counter's.
+/// Returns the counter's fault for an office's refusal.
 fn fault_of(refusal: OfficeRefusal) -> CounterFault {
     match refusal {
         OfficeRefusal::Refused(refusal) => CounterFault::Refused(refusal),
@@ -44,7 +44,7 @@ impl<'w, 's, 'a, V: Serving, R, L: WhichLock, H> Lookout<'w, 's, 'a, V, R, L, H>
         }
     }
 
-    /// Its window.
+    /// Returns the view's window.
     pub(crate) fn into_window(self) -> Window<'w, V, R, L> {
         let Lookout {
             window,
@@ -111,7 +111,7 @@ impl<V: Serving, R: Wait + Clock, L: WhichLock, H> Overview for Lookout<'_, '_, 
         self.given.note(instance, &own);
         let moment = self.clock.now();
         match self.window.give(moment, &own) {
-            // Nothing is told of it before it is on disk.
+            // Nothing is reported of the order before it is durable.
             Ok(told) if self.shift.keep() => Ok(told),
             Ok(_) => Err(CounterFault::Refused(Refusal::Stopped)),
             Err(fault) => Err(fault),

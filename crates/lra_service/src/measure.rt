@@ -1,4 +1,4 @@
-//! The figures of a service that operators are told beside its history.
+//! Figures of a service that operators get beside its history.
 
 use lra_audits::LONGEST;
 use lra_commands::Limits;
@@ -9,16 +9,16 @@ use lra_storage::JournalFile;
 use lra_watchpost::{Tallies, Vitals};
 use std::sync::Arc;
 
-/// State of a journal when it was opened, and how much it may have.
+/// State of a journal when it was opened, and its limits.
 #[derive(Clone, Copy)]
 pub(crate) struct Begun {
     entries: u64,
-    /// Its first line is yet to be written.
+    /// Flag, set if its first line is yet to be written.
     is_new: bool,
     limits: Limits,
 }
 
-/// Returns the state of an opened journal that may have so much.
+/// Returns the state of an opened journal with these limits.
 pub(crate) fn begun_from(opening: &Opening, limits: Limits) -> Begun {
     Begun {
         entries: opening.count_entries(),
@@ -27,7 +27,7 @@ pub(crate) fn begun_from(opening: &Opening, limits: Limits) -> Begun {
     }
 }
 
-/// Tallies of a service, and how much its journal has.
+/// Tallies of a service, and the size of its journal.
 #[derive(Drop)]
 pub(crate) struct Measure {
     pub(crate) file: Arc<JournalFile>,
@@ -47,14 +47,14 @@ pub(crate) struct Now {
 }
 
 impl Measure {
-    /// Returns how many entries the journal has.
+    /// Returns the number of entries that the journal has.
     fn count(&self) -> u64 {
         let first = u64::from(self.begun.is_new);
         let lines = self.file.entries().saturating_sub(first);
         self.begun.entries.saturating_add(lines)
     }
 
-    /// Returns all that is known.
+    /// Returns all figures of the service.
     pub(crate) fn facts(&self, now: Now, vitals: Vitals) -> Facts {
         let limits = self.begun.limits;
         Facts {

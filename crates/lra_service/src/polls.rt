@@ -1,4 +1,4 @@
-//! The polls with which the threads of a service wait.
+//! Polls with which the threads of a service wait.
 
 ghost use Rattle.std.specs.Prelude.{IfErr};
 ghost use Rattle.lra_opening.specs.Faults.{IsOfNoScript};
@@ -13,19 +13,20 @@ use std::net::Net;
 use std::sync::atomic::AtomicU64;
 use std::sync::{Arc, Mutex};
 
-/// Place of a callback worker.
+/// Slot of a callback worker.
 #[derive(Drop)]
 pub struct Stall {
-    /// Poll with which it waits, until it takes that.
+    /// Poll with which the worker waits, until the worker takes it.
     pub poll: Mutex<Option<Poll>>,
-    /// Number of errands that it has under way.
+    /// Number of errands that the worker has under way.
     pub under_way: AtomicU64,
-    /// Least number of milliseconds that it leaves between two asks of a silent member.
+    /// Least number of milliseconds that the worker leaves between two asks of a silent member.
     pub least_pause: AtomicU64,
 }
 
 impl Stall {
-    /// Returns a place where nothing is under way, and no member is spared, and its waker, if they can be had.
+    /// Returns a slot in which nothing is under way and no member is in back-off, and its waker. Returns `None` if they
+    /// can't be had.
     pub fn new<R: Net>(rt: &R) -> Option<(Stall, Waker)> {
         let (poll, bell) = bell(rt).ok()?;
         let stall = Stall {
@@ -37,13 +38,13 @@ impl Stall {
     }
 }
 
-/// Polls with which the threads of a service wait, by their places: connection workers for connections, and callback
+/// Polls with which the threads of a service wait, by their slots: connection workers for connections, and callback
 /// workers for what falls due.
 #[derive(Drop)]
 pub(crate) struct Polls {
     /// Accept queues of the connection workers.
     pub(crate) arrivals: Vec<Arrivals>,
-    /// Places of the callback workers.
+    /// Slots of the callback workers.
     pub(crate) stalls: Vec<Stall>,
     /// Wakers of the callback workers.
     pub(crate) bells: Arc<Vec<Waker>>,
@@ -58,7 +59,7 @@ struct Gathered {
 }
 
 impl Gathered {
-    /// None yet.
+    /// Returns an empty collection of polls.
     fn new(alloc: Global) -> Gathered {
         Gathered {
             arrivals: Vec::new(alloc),
@@ -67,7 +68,7 @@ impl Gathered {
         }
     }
 
-    /// Adds the polls of one more connection worker, and of one more callback worker. Returns whether they could be
+    /// Adds the polls of one more connection worker, and of one more callback worker. Returns `None` if they can't be
     /// had.
     fn add<R: Net>(&mut self, rt: &R, alloc: Global) -> Option<()> {
         self.arrivals.push(Arrivals::new(rt, alloc).ok()?).ok()?;
@@ -76,7 +77,7 @@ impl Gathered {
         self.bells.push(bell).ok()
     }
 
-    /// Returns all of them, unless memory is refused.
+    /// Returns all polls, or a fault if memory is refused.
     fn finish(self, alloc: Global) -> Result<Polls, ServeFault>
         ensures { IfErr result IsOfNoScript }
     {

@@ -1,4 +1,4 @@
-//! The clerks of a service.
+//! Clerks of a service.
 
 ghost use Rattle.std.specs.Prelude.{All, IfOk, IfErr, OnOk};
 ghost use Rattle.lra_opening.specs.Faults.{IsOfNoScript};
@@ -9,18 +9,18 @@ use lra_opening::{ServeFault, enrol_fault};
 use std::alloc::Global;
 use std::sync::Wait;
 
-/// Duty of a clerk of a service.
+/// Role of a clerk of a service.
 #[derive(Clone, Copy, Debug, PartialEq, Eq)]
 pub(crate) enum Duty {
-    /// To answer connections, at that place.
+    /// Answers the connections of the accept queue at that index.
     Answer(u32),
-    /// To let limits fire and carry errands, at that place.
+    /// Lets limits fire and makes the callbacks of errands, in that slot.
     Carry(u32),
-    /// To answer operators.
+    /// Answers operators.
     Watch,
 }
 
-/// Gives a clerk its duty, and enrols another beside it.
+/// Gives a clerk its role, and enrols another beside it. Returns the other.
 fn engage<V: Serving, R: Wait>(
     rt: &R,
     office: &OfficeOf<V>,
@@ -70,7 +70,7 @@ fn add_all<V: Serving, R: Wait>(
     Ok(())
 }
 
-/// Adds the clerks of a service, and one for the operators' thread, where there is one.
+/// Adds the clerks of a service, and one for the operators' thread if there is one.
 fn add_each<V: Serving, R: Wait>(
     rt: &R,
     office: &OfficeOf<V>,
@@ -92,8 +92,8 @@ fn add_each<V: Serving, R: Wait>(
     add_all(rt, office, first, moment, workers, jobs)
 }
 
-/// Returns the clerks of a service, of which one is there already: one for each of so many connection workers and as
-/// many callback workers, and one for the operators' thread, where there is one.
+/// Returns the clerks of a service with their roles, of which one is there already: one for each of so many connection
+/// workers and as many callback workers, and one for the operators' thread if there is one.
 pub(crate) fn hire_all<V: Serving, R: Wait>(
     rt: &R,
     alloc: Global,

@@ -1,4 +1,4 @@
-//! The run of a service.
+//! Run of a service.
 
 ghost use Rattle.std.specs.Prelude.{◌≡◌, ℕ, List, true, None, option_map, ◌⊎◌, IsFalse, IfOk, IfErr, OnOk, IsErrAnd};
 ghost use Rattle.std.specs.Io.KnownBytes.{Appends};
@@ -52,13 +52,13 @@ use std::time::Clock;
 /// End of a service, without a fault.
 #[derive(Clone, Copy, Debug, PartialEq, Eq)]
 pub enum Served {
-    /// The journal isn't sound: that is written, and this is the program's status.
+    /// The journal isn't sound: its audit was written, and this is the program's status.
     Unsound(u8),
-    /// Gently: what was in flight is recorded or given up, and all is synced.
+    /// The service ended gently: what was in flight is recorded or given up, and all is synced.
     Ended,
 }
 
-/// Service: its means, its settings, and the words that say what it serves.
+/// Service: its means, its settings, and what it serves.
 #[derive(Drop)]
 struct Service<'a, R, P, H> {
     rt: &'a R,
@@ -66,17 +66,18 @@ struct Service<'a, R, P, H> {
     herald: &'a H,
     address: &'a str,
     site: &'a Site,
-    /// Terms by which requests are taken.
+    /// Access policy for requests and members.
     terms: Terms<'a>,
-    /// Place of the journal.
+    /// Location of the journal.
     place: &'a P,
     workers: u32,
     settings: Settings,
-    /// Port of the operators, if there is one.
+    /// Operators' server, if there is one.
     operators: Option<&'a Watchpost>,
 }
 
-/// A journal's file that is open, what the threads wait with, and the moment from which their clocks go on.
+/// Parts of a service that is ready to serve: the open file of its journal, the acceptor, the polls of its threads, and
+/// the moment from which their clocks go on.
 #[derive(Drop)]
 struct Stand<'a, R> {
     storage: Storage,
@@ -89,7 +90,7 @@ struct Stand<'a, R> {
     measure: Measure,
 }
 
-/// A journal's file that is open, in a storage of its own, and once more, to be read.
+/// Journal's file that is open in a storage of its own, and open once more to be read.
 #[derive(Drop)]
 struct OpenDisk<'a, R> {
     storage: Storage,
@@ -97,14 +98,14 @@ struct OpenDisk<'a, R> {
     end: FileEnd,
 }
 
-/// A journal's file once more, to be read from a place on.
+/// Journal's file that is open once more, to be read from an offset on.
 #[derive(Drop)]
 pub(crate) struct FileEnd {
     pub(crate) file: File,
     pub(crate) at: u64,
 }
 
-/// Opens a journal's file, where it can be had, whose syncs are taken down with what is tallied.
+/// Opens a journal's file, and notes its syncs in the tallies. Returns `None` if the file can't be opened.
 fn open_disk<'a, R: Wait>(
     rt: &'a R,
     alloc: Global,
@@ -139,7 +140,8 @@ fn tallies_of(
     }
 }
 
-/// Opens a journal's file, all of whose bytes are durable from then on.
+/// Opens a journal's file, of which all bytes are durable from then on. Returns the parts of a service that is ready to
+/// serve.
 fn stand_on<'a, R: Wait>(
     rt: &'a R,
     alloc: Global,
@@ -189,7 +191,7 @@ impl<
     P: Place<File = File>,
     H: Herald + Journalist + Sync,
 > Service<'_, R, P, H> {
-    /// Says that it serves once all threads stand, and serves connections until none can come any more.
+    /// Starts all threads, writes that the service serves, and serves connections until none can come any more.
     fn serve_office<K: Write + Drop + Send, W: Write>(
         &self,
         shift: &Shift<'_, R, H>,
@@ -215,7 +217,7 @@ impl<
         work(shift, office, jobs, self.address, writer)
     }
 
-    /// The office of a journal, and its first clerk.
+    /// Returns the office of a journal, and its first clerk.
     fn open<K: Write + Drop>(
         &self,
         opening: Opening,
@@ -261,7 +263,7 @@ impl<
         served
     }
 
-    /// The same, on a disk, at a listener.
+    /// Opens the office of a journal with the parts that are ready, and serves. Returns how the service has ended.
     fn serve_at<W: Write>(
         &self,
         stand: Stand<'_, R>,
@@ -314,7 +316,7 @@ impl<
         }
     }
 
-    /// The disk of a file that has just its journal's whole lines.
+    /// Returns the parts of a service that is ready to serve, on a file that has just its journal's whole lines.
     fn stand(
         &self,
         file: File,
@@ -330,14 +332,15 @@ impl<
         };
         let polls = polls_of(self.rt, self.alloc, self.workers)?;
         let tallies = tallies_of(self.alloc, self.operators, self.settings.sync_seconds)?;
-        // A journal that was written to later, as by a clock that was wrong, is gone on from that moment.
+        // If the journal has a later moment, for example by a clock that was wrong, the service goes on from that
+        // moment.
         let moment = now.max(latest);
         stand_on(
             self.rt, self.alloc, file, door, polls, tallies, begun, moment,
         )
     }
 
-    /// Makes ready the doorway of the site's socket, and the disk of a journal that was found so.
+    /// Makes the acceptor of the site's socket ready, and the file that was found for the journal.
     fn make_ready<I: Read + Send + Drop + 'static>(
         &self,
         found: Found<File>,
@@ -356,7 +359,7 @@ impl<
         self.stand(file, door, begun, opening.last_moment())
     }
 
-    /// Serves a sound journal that was found so.
+    /// Serves a sound journal, whose file was found.
     fn serve_found<I: Read + Send + Drop + 'static, W: Write>(
         &self,
         found: Found<File>,
@@ -379,7 +382,7 @@ impl<
         }
     }
 
-    /// Serves what the place has, once its lock is taken and its journal is audited.
+    /// Finds, locks and audits the journal at its location. Serves it if it is sound, and otherwise writes its audit.
     fn serve_place<I: Read + Send + Drop + 'static, W: Write>(
         &self,
         entry: Entry<I>,
@@ -403,16 +406,18 @@ impl<
     }
 }
 
-/// Serves the coordinator of a place's journal at an address, with identifiers that begin with a base of their own if
-/// there is one, and that clients may send under older ones, by so many connection workers and as many callback
-/// workers, until the last of the former has ended: then the answer is [`ServeFault::Address`]. Where the journal isn't
-/// sound, that is written as `lra audit` does, and the answer is the program's status. Once an input has ended, if
-/// there is one, the service ends gently: no more connections are accepted and no more requests read, replies that wait
-/// leave, what came of the callbacks under way is recorded, for 10 s at most, and all is synced. A thread that ends
-/// before that is told of at once, with why. Where there is a post for operators, one more thread answers them there.
+/// Serves the coordinator of a location's journal at an address, with so many connection workers and as many callback
+/// workers, until the last connection worker has ended: then returns [`ServeFault::Address`]. Identifiers begin with
+/// the base, if there is one. Clients may also send identifiers that begin with the older bases. If the journal isn't
+/// sound, writes its audit as `lra audit` does, and returns the program's status.
 ///
-/// The file that is written to has just the whole lines of what the place had, and the office that serves goes on from
-/// them ([`ready_file`], [`open_office`]).
+/// Ends gently once the input has ended, if there is one: accepts no more connections, reads no more requests, sends
+/// the replies that wait, records the outcomes of the callbacks under way for 10 s at most, and syncs all. If a thread
+/// ends before that, its end is reported at once, with the reason. If there is an operators' server, one more thread
+/// answers operators there.
+///
+/// Writes to a file that has just the whole lines of what the location had. The office that serves goes on from these
+/// lines ([`ready_file`], [`open_office`]).
 pub fn serve_with<
     R: KeyFiles
         + Threads
@@ -461,7 +466,7 @@ pub fn serve_with<
     service.serve_place(entry, writer)
 }
 
-/// The same with the usual settings, and with no end but by a fault.
+/// Serves as [`serve_with`] does, with the usual settings, and until a fault.
 pub fn serve_from<
     R: KeyFiles
         + Threads
@@ -497,13 +502,13 @@ pub fn serve_from<
         writer,
     ) {
         Ok(Served::Unsound(status)) => Ok(status),
-        // Nothing asks it to end so.
+        // Nothing asks the service to end gently.
         Ok(Served::Ended) => Err(ServeFault::Address),
         Err(fault) => Err(fault),
     }
 }
 
-/// The same, of the system's file of a name.
+/// Serves as [`serve_from`] does, with the system's file of a name.
 pub fn serve<
     R: Threads
         + Wait

@@ -1,4 +1,4 @@
-//! Bounds of what a service takes and has at once, and of how long each waits, by its settings.
+//! Limits, quotas and time-outs of a service, by its settings.
 
 ghost use Rattle.std.specs.Prelude.{◌≡◌};
 ghost use Rattle.lra_commands.specs.Terms.{AreKeepable};
@@ -10,12 +10,12 @@ use lra_rounds::Times;
 use lra_settings::Settings;
 use std::alloc::Global;
 
-/// So many seconds, in milliseconds.
+/// Returns so many seconds in milliseconds.
 fn in_ms(seconds: u64) -> u64 {
     seconds.saturating_mul(1_000)
 }
 
-/// Returns how long a client has, by some settings.
+/// Returns the time-outs of a client, by some settings.
 pub fn times_of(settings: &Settings) -> Times {
     Times {
         idle: in_ms(settings.idle_seconds),
@@ -24,13 +24,13 @@ pub fn times_of(settings: &Settings) -> Times {
     }
 }
 
-/// State that all callback workers of a service share: the addresses of members' hosts, and how many callbacks go out
-/// at once.
+/// State that all callback workers of a service share: the DNS cache of members' hosts, and the quota of callbacks that
+/// go out at once.
 #[derive(Drop)]
 pub struct Calling {
     pub names: Names,
     pub quota: Quota,
-    /// The share of each of them, and how long a callback may take.
+    /// Quota of errands of each worker, and the time-outs of a callback.
     pub share: Share,
 }
 
@@ -40,7 +40,7 @@ fn fitted(number: u64) -> u32 {
 }
 
 impl Calling {
-    /// Returns that of so many callback workers, by some settings: nothing goes out yet.
+    /// Returns the shared state of so many callback workers, by some settings: nothing goes out yet.
     pub fn new(alloc: Global, settings: &Settings, workers: usize) -> Calling {
         let patience = Patience {
             connect: in_ms(settings.connect_seconds),
@@ -58,7 +58,7 @@ impl Calling {
     }
 }
 
-/// Returns what a coordinator takes, and how it repeats its asks, by some settings.
+/// Returns the limits of a coordinator, and the pauses before it repeats its asks, by some settings.
 pub fn limits_of(settings: &Settings) -> Limits
     ensures limits { result ≡ limits_of settings.now }
     ensures keepable { AreKeepable result }

@@ -1,4 +1,4 @@
-//! The threads of a service.
+//! Threads of a service.
 
 ghost use Rattle.std.specs.Prelude.{◌≡◌, [], IfOk, IfSome};
 ghost use Rattle.lra_ticket.specs.Locks.{lock_id};
@@ -40,28 +40,28 @@ use std::sync::{Arc, Mutex, Wait};
 use std::thread;
 use std::time::{Clock, Duration};
 
-/// Number of milliseconds from one look at what the journal's file has taken to the next.
+/// Number of milliseconds from one poll of the journal's file for added lines to the next.
 const LOOK: u64 = 100;
 
-/// State that the threads of a service share.
+/// Service state that the threads share.
 #[derive(Drop)]
 pub(crate) struct Shift<'a, R, H> {
     pub(crate) rt: &'a R,
     pub(crate) alloc: Global,
     herald: &'a H,
     door: Entrance<'a, R>,
-    /// Where the threads wait until all of them stand.
+    /// Latch at which the threads wait until all of them have started.
     latch: Latch,
-    /// The one journal, as a group that is synced.
+    /// Group of journals that is synced: the one journal.
     journals: &'a Journals<FileDisk>,
     ending: &'a Arc<Ending>,
-    /// By which terms requests are taken.
+    /// Access policy for requests and members.
     terms: Terms<'a>,
-    /// The moment at which it began, in milliseconds.
+    /// Moment at which the service began, in milliseconds.
     pub(crate) moment: u64,
     /// Largest number of connections of one connection worker.
     most: usize,
-    /// Times that a client has.
+    /// Time-outs of a client.
     times: Times,
     /// Number of connection workers that haven't ended.
     answering: AtomicU64,
@@ -69,26 +69,26 @@ pub(crate) struct Shift<'a, R, H> {
     working: AtomicU64,
     /// Number of callback workers that haven't ended.
     carrying: AtomicU64,
-    /// Places of the callback workers.
+    /// Slots of the callback workers.
     stalls: Vec<Stall>,
-    /// Bells that wake them, once something may be due.
+    /// Wakers of the callback workers, for when something may be due.
     bells: Arc<Vec<Waker>>,
     /// State that the callback workers share.
     calling: Calling,
-    /// Where operators come in, if any do.
+    /// Operators' server, if there is one.
     watchpost: Option<&'a Watchpost>,
-    /// Tallies, and how much the journal has.
+    /// Tallies, and the size of the journal.
     pub(crate) measure: Measure,
-    /// The journal's file, to be read as it grows.
+    /// Journal's file, to be read as it grows.
     end: Mutex<Option<FileEnd>>,
-    /// End of that file as it grows, where what it takes is told of.
+    /// End of that file as it grows, from which added lines are reported.
     tail: Mutex<Option<Tail>>,
     /// Outcomes of the members' last callbacks.
     pub(crate) outcomes: Outcomes,
 }
 
 impl<'a, R: Wait, H> Shift<'a, R, H> {
-    /// State of a service that begins, with the polls of its connection workers and callback workers.
+    /// Returns the state of a service that begins, with the polls of its connection workers and callback workers.
     pub(crate) fn new(
         rt: &'a R,
         alloc: Global,
@@ -141,12 +141,12 @@ impl<'a, R: Wait, H> Shift<'a, R, H> {
 }
 
 impl<R, H> Shift<'_, R, H> {
-    /// Tells whether operators come in.
+    /// Returns whether there is an operators' server.
     pub(crate) fn is_watched(&self) -> bool {
         self.watchpost.is_some()
     }
 
-    /// Returns how many callbacks are under way.
+    /// Returns the number of callbacks under way.
     fn under_way(&self) -> u64 {
         let mut all: u64 = 0;
         for stall in self.stalls.as_slice() {
@@ -155,7 +155,7 @@ impl<R, H> Shift<'_, R, H> {
         all
     }
 
-    /// Returns what the system tells of the process, where operators come in.
+    /// Returns the process statistics if there is an operators' server.
     fn vitals(&self) -> Vitals {
         match self.watchpost {
             Some(post) => post.vitals(),
@@ -163,7 +163,7 @@ impl<R, H> Shift<'_, R, H> {
         }
     }
 
-    /// Returns the gate of a callback worker, for a journal.
+    /// Returns the gate of a callback worker for a journal.
     fn gate<'b>(
         &'b self,
         stall: &'b Stall,
@@ -180,7 +180,7 @@ impl<R, H> Shift<'_, R, H> {
         )
     }
 
-    /// Notes that a connection worker has ended: with the last one all threads end.
+    /// Notes that a connection worker has ended. With the last one, all threads end.
     fn leave(&self) {
         if self.answering.fetch_sub(1, Ordering::SeqCst) <= 1 {
             self.ending.finish();
@@ -195,7 +195,7 @@ impl<R, H> Shift<'_, R, H> {
 }
 
 impl<R: Wait, H> Shift<'_, R, H> {
-    /// Lists the journal in the group under its instance.
+    /// Adds the journal to the group under its instance.
     pub(crate) fn add(
         &self,
         instance: Instance,
@@ -204,27 +204,27 @@ impl<R: Wait, H> Shift<'_, R, H> {
         self.journals.add(self.rt, instance, progress)
     }
 
-    /// Wakes the callback workers, and syncs all that was written. Returns whether it is durable.
+    /// Wakes the callback workers, and syncs all that was written. Returns whether the sync succeeded.
     pub(crate) fn keep(&self) -> bool {
         ring(self.bells.as_slice());
         matches!(self.journals.keep_all(self.rt), Ok(true))
     }
 
-    /// Hands on the connections that come, until there are to be no others. Then it wakes the callback workers, which
-    /// look whether they are to end.
+    /// Hands on the connections that come, until there are to be no others. Then wakes the callback workers, which
+    /// check whether they are to end.
     pub(crate) fn admit(&self) {
         self.door.open();
         ring(self.bells.as_slice());
     }
 
-    /// Takes the poll of the callback worker of a place.
+    /// Takes the poll of the callback worker in a slot.
     fn take_poll(&self, place: u32) -> Option<(&Stall, Poll)> {
         let stall = self.stalls.get(place as usize)?;
         let poll = stall.poll.lock(self.rt).take()?;
         Some((stall, poll))
     }
 
-    /// Ends the resolver and the acceptor: all connection and callback workers have ended.
+    /// Ends the resolvers and the acceptor, since all connection and callback workers have ended.
     fn end(&self) {
         self.calling.names.close(self.rt);
         self.ending.finish();
@@ -240,12 +240,12 @@ impl<R: Wait, H> Shift<'_, R, H> {
 }
 
 impl<R: Wait + Clock, H> Shift<'_, R, H> {
-    /// The office's clock.
+    /// Returns the office's clock.
     fn clock(&self) -> SystemClock<'_, R> {
         SystemClock::new(self.rt, self.moment)
     }
 
-    /// Returns what is known of the service at a moment.
+    /// Returns the figures of the service at a moment.
     pub(crate) fn facts(&self, instance: Instance, moment: u64) -> Facts {
         let has_failed = self.journals.has_failed(self.rt);
         let now = Now {
@@ -261,7 +261,7 @@ impl<R: Wait + Clock, H> Shift<'_, R, H> {
 }
 
 impl<R: Wait + Clock, H: Journalist> Shift<'_, R, H> {
-    /// Answers operators, at an office with a lock that the type says.
+    /// Answers operators, at an office whose lock the type names.
     fn watch_at<V: Serving, Q: WhichLock>(
         &self,
         post: &Watchpost,
@@ -288,7 +288,7 @@ impl<R: Wait + Clock, H: Journalist> Shift<'_, R, H> {
         drop(lookout.into_window().into_clerk());
     }
 
-    /// Answers operators, where any come in.
+    /// Answers operators if there is a server for them.
     fn watch<V: Serving>(&self, office: &OfficeOf<V>, clerk: Clerk<V>)
         requires { IsAt V.setting V.covers office.now clerk }
     {
@@ -298,7 +298,7 @@ impl<R: Wait + Clock, H: Journalist> Shift<'_, R, H> {
         }
     }
 
-    /// Begins to log what the file takes, as that of a journal.
+    /// Begins to log what is added to the file, as that of a journal.
     fn follow(&self, journal: Instance) {
         let taken = self.end.lock(self.rt).take();
         if let Some(FileEnd { file, at }) = taken {
@@ -307,8 +307,8 @@ impl<R: Wait + Clock, H: Journalist> Shift<'_, R, H> {
         }
     }
 
-    /// Tells of what the file takes, until no one answers any more: with a member's silence what came of its last
-    /// callback.
+    /// Reports what is added to the file, until no connection worker answers any more. With a member's silence, reports
+    /// the outcome of its last callback.
     fn report(&self) {
         let Some(mut tail) = self.tail.lock(self.rt).take() else {
             return;
@@ -326,7 +326,7 @@ impl<R: Wait + Clock, H: Journalist> Shift<'_, R, H> {
         }
     }
 
-    /// Lets the threads that wait at the latch work, once it was said that the service serves.
+    /// Lets the threads that wait at the latch work, once it was written that the service serves.
     pub(crate) fn begin(&self, journal: Instance) {
         self.herald.note(&Event::Serving {
             journals: 1,
@@ -336,7 +336,7 @@ impl<R: Wait + Clock, H: Journalist> Shift<'_, R, H> {
         self.latch.decide(self.rt, true);
     }
 
-    /// Waits until all stand, and reports what the journal's file takes.
+    /// Waits until all threads have started, and reports what is added to the journal's file.
     pub(crate) fn stand_and_report(&self) {
         if self.latch.pass(self.rt) {
             self.report();
@@ -345,8 +345,8 @@ impl<R: Wait + Clock, H: Journalist> Shift<'_, R, H> {
 }
 
 impl<R: Wait, H: Herald + Journalist> Shift<'_, R, H> {
-    /// Tells why a callback worker has ended, unless the disk has failed: then the program ends, and says so. With the
-    /// last one the journal's callbacks stand still.
+    /// Reports why a callback worker has ended, unless a sync has failed: then the program ends and reports that. With
+    /// the last callback worker, the journal's callbacks stand still.
     fn tell_end(&self, end: WorkerEnd, journal: Instance) {
         let is_last = self.carrying.fetch_sub(1, Ordering::SeqCst) <= 1;
         if !self.journals.has_failed(self.rt) {
@@ -357,8 +357,7 @@ impl<R: Wait, H: Herald + Journalist> Shift<'_, R, H> {
 }
 
 impl<R: Wait + Clock + Net, H> Shift<'_, R, H> {
-    /// Tries to make the callbacks of a callback worker: none are under way. Where memory is refused the poll is given
-    /// back.
+    /// Tries to make the callbacks of a callback worker: none is under way. Returns the poll if memory is refused.
     fn try_callbacks<'b>(
         &'b self,
         stall: &'b Stall,
@@ -392,7 +391,7 @@ impl<R: Wait + Clock + Net, H> Shift<'_, R, H> {
         self.calling.names.run(self.rt, self.bells.as_slice());
     }
 
-    /// Waits until all stand, and looks up the names of members' hosts.
+    /// Waits until all threads have started, and looks up the names of members' hosts.
     pub(crate) fn stand_and_look_up(&self) {
         if self.latch.pass(self.rt) {
             self.look_up();
@@ -401,7 +400,8 @@ impl<R: Wait + Clock + Net, H> Shift<'_, R, H> {
 }
 
 impl<R: Wait + Clock + Net, H: Herald + Journalist> Shift<'_, R, H> {
-    /// Makes them, once there is memory, as long as the gate lets turns be made.
+    /// Makes the callbacks of a callback worker once there is memory. Returns `None` once the gate lets no more turns
+    /// be made.
     fn callbacks<'b>(
         &'b self,
         stall: &'b Stall,
@@ -427,7 +427,7 @@ impl<R: Wait + Clock + Net, H: Herald + Journalist> Shift<'_, R, H> {
         unreachable!()
     }
 
-    /// Lets limits fire and carries errands, many at once, at a place whose poll was taken.
+    /// Lets limits fire and makes the callbacks of errands, many at once, in a slot whose poll was taken.
     fn carry_at<V: Serving>(
         &self,
         stall: &Stall,
@@ -459,7 +459,8 @@ impl<R: Wait + Clock + Net, H: Herald + Journalist> Shift<'_, R, H> {
         self.tell_end(end, journal);
     }
 
-    /// Lets limits fire and carries errands, many at once. Where there is no place for that no one answers any more.
+    /// Lets limits fire and makes the callbacks of errands, many at once, in a slot. If the slot has no poll, ends the
+    /// connection workers.
     fn carry<V: Serving>(&self, place: u32, office: &OfficeOf<V>, clerk: Clerk<V>)
         requires { IsAt V.setting V.covers office.now clerk }
     {
@@ -477,7 +478,7 @@ impl<
     R: KeyFiles + Wait + Clock + Net<Stream = TcpStream, Listener = TcpListener>,
     H: Herald + Journalist,
 > Shift<'_, R, H> {
-    /// Answers the connections that come in, at an office with a lock that the type says.
+    /// Answers the connections of an accept queue, at an office whose lock the type names.
     fn answer_at<V: Serving, Q: WhichLock>(
         &self,
         arrivals: &Arrivals,
@@ -512,7 +513,7 @@ impl<
         drop(dismiss(received).into_clerk());
     }
 
-    /// Answers connections.
+    /// Answers the connections of the accept queue at an index.
     fn answer<V: Serving>(&self, place: u32, office: &OfficeOf<V>, clerk: Clerk<V>)
         requires { IsAt V.setting V.covers office.now clerk }
     {
@@ -526,7 +527,8 @@ impl<
         self.leave();
     }
 
-    /// Waits until all stand, and does a clerk's duty. With the last clerk's end all end.
+    /// Waits until all threads have started, and does the work of a clerk's role. With the last clerk's end, ends the
+    /// resolvers and the acceptor.
     pub(crate) fn stand<V: Serving>(&self, office: &OfficeOf<V>, duty: Duty, clerk: Clerk<V>)
         requires { IsAt V.setting V.covers office.now clerk }
     {

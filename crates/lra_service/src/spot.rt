@@ -1,4 +1,4 @@
-//! The address at which connections come in, also where the system chooses the port.
+//! Address at which connections come in, also if the system chooses the port.
 
 ghost use Rattle.std.specs.Prelude.{◌≡◌, ◌++◌, codes, decimal, string_bytes, IfOk, IfErr, IfSome};
 ghost use Rattle.lra_opening.specs.Ends.{IsOfAddress};
@@ -10,16 +10,16 @@ use lra_opening::ServeFault;
 use std::alloc::Global;
 use std::net::{Net, TcpListener, TcpStream};
 
-/// An address that is served.
+/// Address that is served.
 #[derive(Drop)]
 pub struct Spot {
     /// Host and port.
     pub address: String,
-    /// Listener at the address, where the system has chosen the port.
+    /// Listener at the address, if the system has chosen the port.
     pub listener: Option<TcpListener>,
 }
 
-/// Listener of a service, and the input whose end ends it.
+/// Listener of a service, and the input whose end ends the service.
 #[derive(Drop)]
 pub struct Entry<I> {
     /// Listener at the address, if there is one already.
@@ -28,14 +28,14 @@ pub struct Entry<I> {
     pub input: Option<I>,
 }
 
-/// The host of an address whose port is 0.
+/// Returns the host of an address whose port is 0.
 fn host_of(address: &str) -> Option<&str>
     ensures { IfSome result (λ host. address.now ≡ host.now ++ codes ":0") }
 {
     address.strip_suffix(":0")
 }
 
-/// Host and port, as a text.
+/// Returns a host and port as a text.
 fn address_of(alloc: Global, host: &str, port: u16) -> Result<String, ServeFault>
     ensures text { IfOk result (λ text. string_bytes text ≡ host.now ++ codes ":" ++ decimal port) }
     ensures fault { IfErr result IsOfAddress }
@@ -46,8 +46,8 @@ fn address_of(alloc: Global, host: &str, port: u16) -> Result<String, ServeFault
     }
 }
 
-/// Returns what is served at an address as it is given: the system chooses the port where that is 0, and else the
-/// address is that which is given.
+/// Returns the address that is served for a given one. If the port is 0, the system chooses the port. Otherwise the
+/// address is the given one.
 pub fn spot_at<R: Net<Stream = TcpStream, Listener = TcpListener>>(
     rt: &R,
     alloc: Global,
@@ -75,7 +75,7 @@ pub fn spot_at<R: Net<Stream = TcpStream, Listener = TcpListener>>(
     })
 }
 
-/// Returns the listener that is given, and else a new one at a socket's host and port.
+/// Returns the given listener if there is one, and otherwise a new one at a socket's host and port.
 pub fn listener_at<R: Net<Stream = TcpStream, Listener = TcpListener>>(
     rt: &R,
     socket: &str,

@@ -1,4 +1,4 @@
-//! The start of a service's threads: all of them stand before it is said that the service serves.
+//! Start of a service's threads: all of them have started before the service reports that it serves.
 
 ghost use Rattle.std.specs.Prelude.{◌≡◌, All, IfErr, OnOk};
 ghost use Rattle.std.specs.Io.KnownBytes.{Appends};
@@ -21,9 +21,9 @@ use std::thread;
 use std::thread::{Builder, Threads};
 use std::time::Clock;
 
-/// Starts a thread for each clerk, and those that look names up and report what the journal's file takes; says that the
-/// service serves; and accepts connections until no connection worker answers any more. Where a thread can't be
-/// started, nothing is said, and those that stand end at once.
+/// Starts a thread for each clerk, two resolvers, and a thread that reports what is added to the journal's file. Then
+/// writes that the service serves, and accepts connections until no connection worker answers any more. If a thread
+/// can't be started, writes nothing, and ends the started threads at once.
 pub(crate) fn work<
     V: Serving + Send,
     R: KeyFiles + Threads + Wait + Clock + Net<Stream = TcpStream, Listener = TcpListener> + Sync,

@@ -1,4 +1,4 @@
-//! The terms by which requests are taken, and members are called.
+//! Access policy: how requests are accepted, and members are called.
 
 ghost use Rattle.std.specs.Prelude.{◌≡◌};
 
@@ -16,25 +16,26 @@ use std::alloc::Global;
 use std::sync::Wait;
 use std::time::Clock;
 
-/// Terms by which a service takes requests, and calls members.
+/// Access policy by which a service accepts requests, and calls members.
 #[derive(Clone, Copy)]
 pub struct Terms<'a> {
-    /// Bases with which identifiers may begin as well.
+    /// Older bases with which identifiers may begin, too.
     pub olders: &'a [Base],
-    /// Nothing is served but behind the path of the base.
+    /// Flag, set if nothing is served but under the path of the base.
     pub is_strict: bool,
-    /// The keys of which each request has to give one, if they are asked for.
+    /// Keys of which each request has to give one, if they are asked for.
     pub keys: Option<&'a KeyBook>,
-    /// The names by which requests have to come, if there are any.
+    /// Host names, or hosts and ports, by which requests have to come, if there are any.
     pub names: &'a [Name],
-    /// Rules that say where members may be.
+    /// Rules for the addresses of members.
     pub rules: &'a Rules,
-    /// The limit in milliseconds of starts that give none, or 0.
+    /// Limit in milliseconds of starts that give none, or 0.
     pub default_limit: u64,
 }
 
 impl<'a> Terms<'a> {
-    /// Returns the terms of a service that lets all in, and whose members may be where these rules say.
+    /// Returns the access policy of a service that lets all requests in, and whose members may be where these rules
+    /// allow.
     pub fn usual(rules: &'a Rules) -> Terms<'a> {
         Terms {
             olders: &[],
@@ -47,17 +48,17 @@ impl<'a> Terms<'a> {
     }
 }
 
-/// Listener to what a service refuses, and to what becomes of its keys.
+/// Observer of the requests that a service refuses, and of the reloads of its keys.
 #[derive(Drop)]
 pub struct Doorman<'a, H> {
     alloc: Global,
     herald: &'a H,
     tallies: &'a Tallies,
-    /// The name of the file of the keys, if there is one.
+    /// Name of the keys' file, if there is one.
     path: &'a str,
 }
 
-/// Handler within the filters of a service's terms, with a count of the requests that are let in.
+/// Handler within the filters of an access policy, with a count of the requests that are let in.
 pub type Received<'a, R, H, A> = Guarded<
     Proxied<CountedResponder<'a, Limited<Ruled<'a, A>>, R>>,
     Porter<'a, R, Doorman<'a, H>>,
@@ -65,7 +66,7 @@ pub type Received<'a, R, H, A> = Guarded<
 >;
 
 impl<'a, H> Doorman<'a, H> {
-    /// Returns the listener of a service with these terms.
+    /// Returns the observer of a service with this access policy.
     pub fn new(
         alloc: Global,
         terms: Terms<'a>,
@@ -125,7 +126,7 @@ impl<H: Herald> Renewed for Doorman<'_, H> {
     }
 }
 
-/// Adds the filters of a service's terms to a handler. Where memory is refused, the handler is given back.
+/// Adds the filters of an access policy to a handler. Returns the handler if memory is refused.
 pub fn receive<'a, R: Wait + Clock + KeyFiles, H: Herald + Journalist, A: Responder>(
     rt: &'a R,
     alloc: Global,
@@ -148,7 +149,7 @@ pub fn receive<'a, R: Wait + Clock + KeyFiles, H: Herald + Journalist, A: Respon
     Ok(Guarded::new(proxied, porter, told))
 }
 
-/// Returns the handler within the filters of a service's terms.
+/// Takes a handler out of the filters of an access policy.
 pub fn dismiss<'a, R, H, A: Responder>(received: Received<'a, R, H, A>) -> A
 where
     R: Wait + Clock + KeyFiles,

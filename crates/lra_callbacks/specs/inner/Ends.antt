@@ -1,4 +1,4 @@
--- What is told of a callback once it has ended, by its socket and by what was carried.
+-- Replies that are reported for a callback that has ended, by its socket and by its exchange.
 use Rattle.std.specs.Prelude.{◌≡◌, ℕ, Bool, true, false, if◌then◌else◌, Option, Some, None, IfSome}
 use Rattle.lra_courier.specs.Codes.{IsCoded}
 use Rattle.lra_outcomes.specs.declared.reply.Reply.{Reply}
@@ -8,16 +8,16 @@ use Rattle.lra_callbacks.specs.declared.replies.End.TheVariants as end
 use Rattle.lra_callbacks.specs.declared.share.Patience.{Patience}
 use Rattle.lra_callbacks.specs.inner.Replies.{reply_of}
 
--- which limit of time passes: that to connect until there is a connection, and then that for the whole reply
+-- the time limit that has passed: that to connect until there is a connection, and then that for the whole reply
 abbrev pub limit_of : Bool → Patience → ℕ
 limit_of is_connected patience = if is_connected then patience.reply else patience.connect
 
--- the system had no socket for a callback that would end so, which says nothing of its member
+-- a callback with this end had no socket from the system, which says nothing of its member
 abbrev pub has_no_socket : End → Bool
 has_no_socket end.NotSent = true
 has_no_socket _ = false
 
--- what is told goes by what came of the bytes that were carried, and by the code of the response that they begin with
+-- the reply follows from what came of the bytes of the exchange, and from the code of the response that they begin with
 abbrev pub Replies : End → Option Flight → Option Reply → Type 0
 Replies end None told = told ≡ reply_of end None None
 Replies end (Some flight) told =

@@ -4,7 +4,7 @@ use Rattle.std.proofs.lemmas.List.Elements.{All-tail}
 use Rattle.lra_service.specs.inner.Opened.{IsAt}
 use Rattle.lra_service.proofs.starting.fn.work.scope.Goals as goal
 
--- what holds of each of a list holds of each behind the first
+-- what holds of each item of a list holds of each after the first
 behind_first : {X : Type 0} (P : X → Type 0) (x : X) (xs ys : List X) → ys ≡ x ∷ xs → All P ys → All P xs
 behind_first P x xs ys is all = All-tail P x xs (rw is at all)
 
@@ -13,7 +13,7 @@ pub spawn_scoped-started-requires-after_bounds : goal.spawn_scoped-started-requi
 spawn_scoped-started-requires-after_bounds g c κs within =
     let step = c.in-Some.ensures.steps in let h = c.loop-job.invariant.2 0 c.in-Some.job in grind rules
 
--- and the others are behind it
+-- and the others come after it
 pub loop-job-preserved-else-is_err : goal.loop-job-preserved-else-is_err
 loop-job-preserved-else-is_err g c =
     let step = c.in-Some.ensures.steps in (
