@@ -1,13 +1,13 @@
-//! The words that ask for a story, a listing or a journal to be followed.
+//! Command lines that ask for a timeline, for a listing, or to follow a journal.
 
 use lra_journal::read_number;
 use lra_model::ActionStatus;
 use lra_stories::{Form, read_wanted};
 
-/// A story, a listing or a journal to be followed, as words ask for it.
+/// Question for a timeline or a listing, or to follow a journal.
 #[derive(Clone, Copy)]
 pub(crate) enum Asking<'a> {
-    /// The story of what happened to an action.
+    /// The timeline of an action.
     Explain {
         place: &'a str,
         form: Form,
@@ -26,7 +26,7 @@ pub(crate) enum Asking<'a> {
 }
 
 impl<'a> Asking<'a> {
-    /// Returns the place that is asked about.
+    /// Returns the path that the question is about.
     pub(crate) fn place(&self) -> &'a str {
         match *self {
             Asking::Explain { place, .. }
@@ -36,7 +36,8 @@ impl<'a> Asking<'a> {
     }
 }
 
-/// Which actions are listed, whether their ages count up to now, and whether it is told what they wait for.
+/// Options of a listing: which actions it has, whether their ages count up to now, and whether it says what they wait
+/// for.
 #[derive(Clone, Copy)]
 pub(crate) struct Listed {
     pub(crate) status: Option<ActionStatus>,
@@ -54,14 +55,14 @@ impl Listed {
     };
 }
 
-/// An option that stands before its value.
+/// Option that is followed by its value.
 #[derive(Clone, Copy)]
 enum Valued {
     State,
     OlderThan,
 }
 
-/// The options of a listing so far, and the one whose value comes next.
+/// Options of a listing so far, and the one whose value comes next.
 #[derive(Clone, Copy)]
 struct Choosing {
     choice: Listed,
@@ -69,7 +70,7 @@ struct Choosing {
 }
 
 impl Choosing {
-    /// The value of an option.
+    /// Adds the value of an option. Returns nothing where it is no value of it.
     fn valued(self, option: Valued, value: &str) -> Option<Choosing> {
         let mut choice = self.choice;
         match option {
@@ -79,7 +80,7 @@ impl Choosing {
         Some(Choosing { choice, open: None })
     }
 
-    /// One option more. None where it isn't one.
+    /// Adds an option. Returns nothing where the word is none.
     fn with(self, option: &str) -> Option<Choosing> {
         let mut next = self;
         match option {
@@ -92,7 +93,7 @@ impl Choosing {
         Some(next)
     }
 
-    /// One word more.
+    /// Adds a word.
     fn and(self, word: &str) -> Option<Choosing> {
         match self.open {
             Some(option) => self.valued(option, word),
@@ -101,7 +102,7 @@ impl Choosing {
     }
 }
 
-/// The options of a listing.
+/// Reads the options of a listing.
 fn read_choice(options: &[String]) -> Option<Listed> {
     let mut choosing = Choosing {
         choice: Listed::ALL,
@@ -116,12 +117,12 @@ fn read_choice(options: &[String]) -> Option<Listed> {
     }
 }
 
-/// Returns whether a word names something, and is no option.
+/// Returns whether a word is a name, and no option.
 fn is_name(word: &str) -> bool {
     !word.starts_with("--")
 }
 
-/// The story in a form of the action that a word names. None where it names none.
+/// Returns the question for the timeline of an action in a form. Returns nothing where the name is no action's.
 fn explain_of<'a>(place: &'a str, form: Form, name: &'a str) -> Option<Asking<'a>> {
     if read_wanted(name).is_some() {
         Some(Asking::Explain { place, form, name })
@@ -130,7 +131,7 @@ fn explain_of<'a>(place: &'a str, form: Form, name: &'a str) -> Option<Asking<'a
     }
 }
 
-/// Reads what words with a verb and a place ask for.
+/// Reads the question of a verb, a path and further words.
 fn read_on<'a>(verb: &str, place: &'a str, rest: &'a [String]) -> Option<Asking<'a>> {
     match verb {
         "explain" => match rest {
@@ -159,7 +160,7 @@ fn read_on<'a>(verb: &str, place: &'a str, rest: &'a [String]) -> Option<Asking<
     }
 }
 
-/// Reads what these words ask for, where it is a story, a listing or a journal to be followed.
+/// Reads the question of a command line. Returns nothing for other command lines.
 pub(crate) fn read_asking(words: &[String]) -> Option<Asking<'_>> {
     match words {
         [verb, place, rest @ ..] if is_name(place.as_str()) => {

@@ -1,4 +1,4 @@
-//! The story of an action, in a journal or in that of a folder which has it.
+//! Timeline of an action, in a journal or in the journal of a folder that has it.
 
 use lra_audits::{RunFault, error_line, next_piece, put, settle, tell, tell_usage};
 use lra_folders::{Found, find, is_folder, tell_none};
@@ -9,10 +9,10 @@ use std::io;
 use std::io::Read;
 use std::rt::Files;
 
-/// No header is as long.
+/// Number of bytes that no header reaches.
 const HEADER: usize = 64;
 
-/// The result of a search for the journal of an instance.
+/// Result of a search for the journal of an instance.
 #[derive(Drop)]
 enum Search {
     /// The path of the journal.
@@ -23,7 +23,7 @@ enum Search {
     Unread,
 }
 
-/// Returns the instance of the journal that begins so, where a header stands there.
+/// Returns the instance in the header of a journal's first bytes, if there is a header.
 fn instance_in(front: &[u8]) -> Option<Instance> {
     let end = first_line(front)?;
     match read_header(front.get(..end)?) {
@@ -32,7 +32,7 @@ fn instance_in(front: &[u8]) -> Option<Instance> {
     }
 }
 
-/// Reads the front of a journal, and returns its instance, where it has one.
+/// Reads the first bytes of a journal, and returns its instance, if it has one.
 fn instance_of<F: Read>(reader: &mut F) -> Result<Option<Instance>, RunFault> {
     let mut front = [0u8; HEADER];
     let mut count = 0;
@@ -62,7 +62,7 @@ fn has_instance<R: AllocGlobal + Files + Input>(
     }
 }
 
-/// Searches a folder's journals for that of an instance. One that can't be read is told.
+/// Searches a folder's journals for that of an instance. Reports each journal that can't be read.
 fn find_in<R: AllocGlobal + Files + Input + Eprint>(
     rt: &R,
     folder: &str,
@@ -87,7 +87,7 @@ fn find_in<R: AllocGlobal + Files + Input + Eprint>(
     Ok(outcome)
 }
 
-/// Tells that a number alone names an action of each of a folder's journals. Returns the program's status.
+/// Reports that a number alone names an action in each of a folder's journals. Returns the program's status.
 fn tell_ambiguous<R: AllocGlobal + Eprint>(rt: &R, folder: &str, name: &str) -> u8 {
     tell(
         rt,
@@ -97,7 +97,7 @@ fn tell_ambiguous<R: AllocGlobal + Eprint>(rt: &R, folder: &str, name: &str) -> 
     )
 }
 
-/// Tells what happened to an action of a file's journal, or of standard input's.
+/// Prints the timeline of an action of a file's journal, or of standard input's.
 fn explain<R: AllocGlobal + Files + Input + Print + Eprint>(
     rt: &R,
     file: &str,
@@ -120,7 +120,7 @@ fn explain<R: AllocGlobal + Files + Input + Print + Eprint>(
     explain_run(rt.alloc(), input, wanted, form, name, &mut io::writer(rt))
 }
 
-/// Tells what happened to an action of the journal of an instance in a folder.
+/// Prints the timeline of an action of the journal of an instance in a folder.
 fn explain_found<R: AllocGlobal + Files + Input + Print + Eprint>(
     rt: &R,
     folder: &str,
@@ -147,7 +147,7 @@ fn explain_found<R: AllocGlobal + Files + Input + Print + Eprint>(
     }
 }
 
-/// Tells what happened to an action of a folder's journals, and returns the program's status.
+/// Prints the timeline of an action of a folder's journals, and returns the program's status.
 fn explain_in<R: AllocGlobal + Files + Input + Print + Eprint + Clone + Drop>(
     rt: &R,
     folder: &str,
@@ -165,7 +165,7 @@ fn explain_in<R: AllocGlobal + Files + Input + Print + Eprint + Clone + Drop>(
     settle(rt, outcome, folder)
 }
 
-/// Tells what happened to an action of a journal or of a folder's, and returns the program's status.
+/// Prints the timeline of an action of a journal, or of a folder's, and returns the program's status.
 pub(crate) fn answer_explain<R: AllocGlobal + Files + Input + Print + Eprint + Clone + Drop>(
     rt: &R,
     place: &str,

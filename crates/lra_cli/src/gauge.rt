@@ -1,4 +1,4 @@
-//! The progress of an audit, a listing or an upgrade, on a line of a terminal that is written again and again.
+//! Progress of an audit, a listing or an upgrade, on a line of a terminal that is overwritten again and again.
 
 use lra_audits::RunFault;
 use lra_opening::Herald;
@@ -10,7 +10,7 @@ use std::rt::Files;
 use std::sync::atomic::{AtomicBool, AtomicU64, Ordering};
 use std::time::Clock;
 
-/// The milliseconds that pass until the line is written first, and from one time to the next.
+/// Milliseconds until the line is first written, and between later writes of it.
 const FIRST: u64 = 1000;
 
 const PAUSE: u64 = 200;
@@ -21,24 +21,24 @@ const MEGABYTE: u64 = 1_000_000;
 /// The bytes that clear the line.
 const BLANK: &str = "\r                                                \r";
 
-/// The progress of a run. Nothing is promised of it: where the clock or memory fails, or two threads report at once,
-/// there is one line less.
+/// Progress of a run. Nothing is promised of it: where the clock or memory fails, or two threads report at once, a line
+/// may be missing.
 #[derive(Drop)]
 pub(crate) struct Gauge<'a, R, H> {
     alloc: Global,
     clock: &'a R,
     herald: &'a H,
-    /// The number of bytes that there are.
+    /// Number of bytes to read.
     all: u64,
-    /// The number of bytes that were read.
+    /// Number of bytes that were read.
     read: AtomicU64,
-    /// The millisecond of the steady clock from which on the line is written.
+    /// Millisecond of the steady clock from which on the line is written.
     due: AtomicU64,
-    /// A flag, set while the line stands there.
+    /// Mark that the line is on the terminal.
     stands: AtomicBool,
 }
 
-/// Returns the milliseconds of the steady clock.
+/// Returns the milliseconds of the steady clock, or 0 where it fails.
 fn steady<R: Clock>(clock: &R) -> u64 {
     match clock.monotonic() {
         Ok(since) => u64::try_from(since.as_millis()).unwrap_or(u64::MAX),
@@ -47,7 +47,7 @@ fn steady<R: Clock>(clock: &R) -> u64 {
 }
 
 impl<'a, R: Clock, H: Herald> Gauge<'a, R, H> {
-    /// One of so many bytes, of which none was read.
+    /// Returns the progress of a run that has so many bytes to read, and has read none.
     pub(crate) fn new(alloc: Global, clock: &'a R, herald: &'a H, all: u64) -> Gauge<'a, R, H> {
         Gauge {
             alloc,
@@ -72,7 +72,7 @@ impl<'a, R: Clock, H: Herald> Gauge<'a, R, H> {
         }
     }
 
-    /// Counts bytes that were read, and writes the line where it is due.
+    /// Counts bytes that were read, and writes the line if it is due.
     fn count(&self, bytes: u64) {
         self.read.fetch_add(bytes, Ordering::SeqCst);
         let now = steady(self.clock);
@@ -82,7 +82,7 @@ impl<'a, R: Clock, H: Herald> Gauge<'a, R, H> {
         }
     }
 
-    /// Clears the line, where it stands.
+    /// Clears the line, if it is on the terminal.
     pub(crate) fn clear(&self) {
         if self.stands.swap(false, Ordering::SeqCst) {
             self.herald.tell(BLANK);
@@ -90,7 +90,7 @@ impl<'a, R: Clock, H: Herald> Gauge<'a, R, H> {
     }
 }
 
-/// A reader that is counted. At its end, and where it fails, the line is cleared.
+/// Reader whose bytes are counted. At its end, and where it fails, the line is cleared.
 #[derive(Drop)]
 pub(crate) struct Counted<'a, F, R, H> {
     reader: F,
@@ -110,7 +110,7 @@ impl<F: Read, R: Clock, H: Herald> Read for Counted<'_, F, R, H> {
     }
 }
 
-/// A writer before which the line is cleared.
+/// Writer that clears the line before each write.
 #[derive(Drop)]
 pub(crate) struct Tidy<'a, W, R, H> {
     pub(crate) writer: W,
@@ -128,7 +128,7 @@ impl<W: Write, R: Clock, H: Herald> Write for Tidy<'_, W, R, H> {
     }
 }
 
-/// The system's files, each of which is counted.
+/// Files of the system, whose bytes are counted.
 #[derive(Drop)]
 pub(crate) struct Gauged<'a, R, H> {
     pub(crate) system: System<'a, R>,

@@ -1,4 +1,4 @@
-//! By which terms is served, as options say.
+//! Access policy of a service, from its options.
 
 use lra_admission::{KeyBook, KeyFiles, KeysFault, Name};
 use lra_files::SmallFault;
@@ -13,33 +13,33 @@ use std::fs::File;
 use std::rt::Files;
 use std::sync::Arc;
 
-/// The least number of bytes that a token has, and the most.
+/// Least and largest number of bytes of a token.
 const SHORTEST: usize = 16;
 
 const LONGEST: usize = 128;
 
-/// The parts that the terms of a service are made of.
+/// Parts of a service's access policy, and its base.
 #[derive(Drop)]
 pub(crate) struct Grounds {
-    /// The beginning of identifiers, if that isn't `http://`, the address and `/`.
+    /// Base of identifiers, if that isn't `http://`, the address and `/`.
     base: Option<Base>,
     rest: Rest,
 }
 
-/// The parts that they are made of beside what identifiers begin with.
+/// Parts of a service's access policy beside its base.
 #[derive(Drop)]
 pub(crate) struct Rest {
     is_strict: bool,
     keys: Option<KeyBook>,
     names: Vec<Name>,
     rules: Rules,
-    /// The limit in milliseconds of starts that give none, or 0.
+    /// Limit in milliseconds of starts that give none, or 0.
     default_limit: u64,
     fence: Option<Arc<Fence>>,
 }
 
 impl Grounds {
-    /// Returns what identifiers begin with, and the rest.
+    /// Returns the base, and the other parts.
     pub(crate) fn parted(self) -> (Option<Base>, Rest) {
         let Grounds { base, rest } = self;
         (base, rest)
@@ -47,7 +47,7 @@ impl Grounds {
 }
 
 impl Rest {
-    /// The terms, where identifiers may begin with older bases as well.
+    /// Returns the access policy, where identifiers in requests may begin with these older bases too.
     pub(crate) fn terms<'a>(&'a self, olders: &'a [Base]) -> Terms<'a> {
         Terms {
             olders,
@@ -59,13 +59,13 @@ impl Rest {
         }
     }
 
-    /// Returns the fence, which says whose the folder is, if there is one.
+    /// Returns the fence, which names the folder's owner, if there is one.
     pub(crate) fn fence(&self) -> Option<&Arc<Fence>> {
         self.fence.as_ref()
     }
 }
 
-/// A fault that a text tells.
+/// Returns the fault with that text.
 pub(crate) fn wrong(text: Result<String, AllocError>) -> OptionsFault {
     match text {
         Ok(text) => OptionsFault::Wrong(text),
@@ -73,7 +73,7 @@ pub(crate) fn wrong(text: Result<String, AllocError>) -> OptionsFault {
     }
 }
 
-/// Why there are no keys.
+/// Returns the fault of a file of keys.
 fn keys_fault(alloc: Global, path: &str, fault: KeysFault) -> OptionsFault {
     if fault == KeysFault::Memory {
         return OptionsFault::Memory;
@@ -84,7 +84,7 @@ fn keys_fault(alloc: Global, path: &str, fault: KeysFault) -> OptionsFault {
     }
 }
 
-/// The keys of the file that is named, if one is.
+/// Reads the keys of the file that the options name, if they name one.
 fn keys_of<R: AllocGlobal + Files<File = File> + KeyFiles>(
     rt: &R,
     said: &Said,
@@ -99,7 +99,7 @@ fn keys_of<R: AllocGlobal + Files<File = File> + KeyFiles>(
     }
 }
 
-/// Returns the fence, which says whose the folder is, if a file of it is named.
+/// Returns the fence, which names the folder's owner, if the options name its file.
 fn fence_of<R: AllocGlobal + Fenced>(
     rt: &R,
     said: &Said,
@@ -122,7 +122,7 @@ fn fence_of<R: AllocGlobal + Fenced>(
     }
 }
 
-/// The names by which the service is called.
+/// Returns the names by which clients call the service.
 fn names_of(alloc: Global, said: &Said) -> Result<Vec<Name>, OptionsFault> {
     let mut names = Vec::new(alloc);
     for text in said.texts(alloc, Word::Origin)? {
@@ -135,7 +135,7 @@ fn names_of(alloc: Global, said: &Said) -> Result<Vec<Name>, OptionsFault> {
     Ok(names)
 }
 
-/// The rules for where members may be.
+/// Returns the rules for where members may be.
 fn rules_of(alloc: Global, said: &Said) -> Result<Rules, OptionsFault> {
     let mut rules = Vec::new(alloc);
     for text in said.texts(alloc, Word::Members)? {
@@ -156,12 +156,12 @@ fn is_token(text: &str) -> bool {
     SHORTEST <= text.len() && text.len() <= LONGEST && is_plain
 }
 
-/// That a file has no token.
+/// Returns the fault of a file without a token.
 fn no_token(alloc: Global, path: &str) -> OptionsFault {
     wrong(format!(in alloc; "{path}: no token of 16 to 128 letters, digits, - and _"))
 }
 
-/// The token of a file.
+/// Reads the token of a file.
 fn token_in<R: AllocGlobal + Files<File = File> + KeyFiles>(
     rt: &R,
     path: &str,
@@ -180,7 +180,7 @@ fn token_in<R: AllocGlobal + Files<File = File> + KeyFiles>(
     }
 }
 
-/// A base with a token behind it.
+/// Returns a base with a token after it.
 fn base_with(alloc: Global, base: &str, token: &str) -> Result<Base, OptionsFault> {
     let text = format!(in alloc; "{base}{token}/")?;
     match Base::read(alloc, text.as_str()) {
@@ -190,7 +190,7 @@ fn base_with(alloc: Global, base: &str, token: &str) -> Result<Base, OptionsFaul
     }
 }
 
-/// Copies what identifiers are to begin with, if the options say so.
+/// Copies the base that the options name, if they name one.
 pub(crate) fn copy_base(options: &Options<'_>) -> Result<Option<Base>, AllocError> {
     match &options.base {
         Some(base) => Ok(Some(base.copy()?)),
@@ -198,8 +198,8 @@ pub(crate) fn copy_base(options: &Options<'_>) -> Result<Option<Base>, AllocErro
     }
 }
 
-/// Returns what identifiers begin with, at an address, where that isn't `http://`, the address and `/`; and whether a
-/// part of it is a secret.
+/// Returns the base of identifiers at an address, if it isn't `http://`, the address and `/`, and whether a part of it
+/// is a secret.
 fn base_of<R: AllocGlobal + Files<File = File> + KeyFiles>(
     rt: &R,
     options: &Options<'_>,
@@ -221,7 +221,7 @@ fn base_of<R: AllocGlobal + Files<File = File> + KeyFiles>(
     Ok((Some(base?), true))
 }
 
-/// Returns the parts that the terms of a service at an address are made of.
+/// Returns the parts of the access policy of a service at an address.
 pub(crate) fn grounds_of<R: AllocGlobal + Files<File = File> + KeyFiles + Fenced>(
     rt: &R,
     options: &Options<'_>,

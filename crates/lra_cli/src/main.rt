@@ -1,6 +1,6 @@
-//! `lra`: audits a journal of long running actions or a folder of them, lists its actions and members, tells what
-//! happened to one, follows it as it grows, upgrades it, and salvages what is sound of it; plays scripts of commands;
-//! and serves a coordinator.
+//! `lra`: audits a journal of long running actions or a folder of them, lists its actions and members, prints the
+//! timeline of an action, follows a journal as it grows, upgrades it, and salvages what is sound of it; plays scripts
+//! of commands; and serves a coordinator.
 #![tactic(auto)]
 
 mod asking;
@@ -40,13 +40,13 @@ use std::sync::Wait;
 use std::thread::Threads;
 use std::time::Clock;
 
-/// Plays a script, and answers the program's status.
+/// Plays a script, and returns the program's status.
 fn answer_play<R: AllocGlobal + Files + Input + Print + Eprint>(rt: &R, script: &str) -> u8 {
     let outcome = play_file(rt.alloc(), &System { rt }, script, &mut io::writer(rt));
     settle(rt, outcome, script)
 }
 
-/// Returns the place that a question is about, `-` for none or for standard input, and whether it may be a folder.
+/// Returns the path that a question is about, `-` for none or for standard input, and whether it may be a folder.
 fn place_of(question: Question<'_>) -> (&str, bool) {
     match question {
         Question::Run(invocation) => {
@@ -61,7 +61,7 @@ fn place_of(question: Question<'_>) -> (&str, bool) {
     }
 }
 
-/// Carries out what these words ask for, and answers the program's status. The watcher is told what takes a while.
+/// Carries out a command line, and returns the program's status. The watcher reports the progress of long work.
 fn answer<
     R: AllocGlobal
         + Files<File = File>

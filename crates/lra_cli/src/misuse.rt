@@ -1,10 +1,10 @@
-//! Why the words of a command line ask for nothing, and what was meant.
+//! Reasons why a command line is refused, and the call that was meant.
 
 use lra_journal::read_number;
 use lra_model::ActionStatus;
 use std::alloc::{AllocError, Global};
 
-/// The call of each verb, behind the program's name.
+/// Call of each verb, after the program's name.
 const CALLS: [(&str, &str); 10] = [
     ("audit", "audit FILE"),
     ("show", "show FILE"),
@@ -21,14 +21,14 @@ const CALLS: [(&str, &str); 10] = [
     ("lra", "--help"),
 ];
 
-/// Why words ask for nothing.
+/// Reason why a command line is refused.
 #[derive(Clone, Copy, Debug, PartialEq, Eq)]
 pub(crate) enum Misuse<'a> {
     /// The first word is no verb.
     Verb(&'a str),
     /// A word is none of the verb's options.
     Option(&'a str),
-    /// An option has no value behind it.
+    /// No value follows an option.
     NoValue(&'a str),
     /// A text is no status of an action.
     State(&'a str),
@@ -38,11 +38,11 @@ pub(crate) enum Misuse<'a> {
     Workers(&'a str),
     /// A text names no action.
     Name(&'a str),
-    /// There are too few words or too many for a verb, which is called so.
+    /// A verb has too few words or too many. This is its call.
     Call(&'static str),
 }
 
-/// Returns how a verb is called, if there is one of that name.
+/// Returns the call of a verb, if there is one of that name.
 fn call_of(verb: &str) -> Option<&'static str> {
     for (name, call) in &CALLS {
         if *name == verb {
@@ -52,12 +52,12 @@ fn call_of(verb: &str) -> Option<&'static str> {
     None
 }
 
-/// Returns whether a word is written as an option is.
+/// Returns whether a word has the form of an option.
 fn is_option(word: &str) -> bool {
     word.starts_with("--")
 }
 
-/// Returns what is wrong with the value of an option of a listing, if anything is.
+/// Returns the misuse in a value of a listing's option, if there is one.
 fn value_misuse<'a>(option: &str, value: &'a str) -> Option<Misuse<'a>> {
     if option == "--state" {
         match ActionStatus::from_name(value.as_bytes()) {
@@ -72,7 +72,7 @@ fn value_misuse<'a>(option: &str, value: &'a str) -> Option<Misuse<'a>> {
     }
 }
 
-/// Returns what is wrong with the options of a listing, if anything is.
+/// Returns the misuse in the options of a listing, if there is one.
 fn listing_misuse(options: &[String]) -> Option<Misuse<'_>> {
     let mut open: Option<&str> = None;
     for word in options {
@@ -96,7 +96,7 @@ fn listing_misuse(options: &[String]) -> Option<Misuse<'_>> {
     }
 }
 
-/// Returns the first of some words that is written as an option is, and isn't that one.
+/// Returns the misuse of the first word that has the form of an option and isn't the known one.
 fn other_option<'a>(words: &'a [String], known: &str) -> Option<Misuse<'a>> {
     for word in words {
         if is_option(word.as_str()) && word.as_str() != known {
@@ -106,7 +106,7 @@ fn other_option<'a>(words: &'a [String], known: &str) -> Option<Misuse<'a>> {
     None
 }
 
-/// Returns the option that a verb has which stands alone; none has none.
+/// Returns the option without a value that a verb has, or an empty text.
 fn flag_of(verb: &str) -> &'static str {
     match verb {
         "explain" => "--svg",
@@ -115,7 +115,7 @@ fn flag_of(verb: &str) -> &'static str {
     }
 }
 
-/// Returns why a verb with these words behind it asks for nothing.
+/// Returns the misuse in a verb with further words.
 fn misuse_on<'a>(verb: &str, call: &'static str, rest: &'a [String]) -> Misuse<'a> {
     let found = match (verb, rest) {
         ("serve", [_, _, workers]) => Some(Misuse::Workers(workers.as_str())),
@@ -135,7 +135,7 @@ fn misuse_on<'a>(verb: &str, call: &'static str, rest: &'a [String]) -> Misuse<'
     }
 }
 
-/// Returns why words that ask for nothing do.
+/// Returns the misuse in a command line that was refused.
 pub(crate) fn misuse_of(words: &[String]) -> Misuse<'_> {
     match words {
         [verb, rest @ ..] => match call_of(verb.as_str()) {
@@ -150,7 +150,7 @@ pub(crate) fn misuse_of(words: &[String]) -> Misuse<'_> {
     }
 }
 
-/// Returns the line that says why words ask for nothing, and what was meant.
+/// Returns the line that reports a misuse, and the call that was meant.
 pub(crate) fn misuse_line(alloc: Global, misuse: Misuse<'_>) -> Result<String, AllocError> {
     match misuse {
         Misuse::Verb(word) => format!(in alloc; "lra: no call {word}: lra --help prints them\n"),

@@ -1,10 +1,11 @@
-//! The warning that the identifiers of a service lead nowhere.
+//! Warning that the identifiers of a service lead nowhere.
 
 use lra_opening::Herald;
 use lra_options::{Options, Word};
 use std::alloc::{AllocError, Global};
 
-/// Returns whether an address is each of a machine's own: one can listen there, and connect to it from nowhere else.
+/// Returns whether an address stands for all addresses of a machine. A service can listen there, but other machines
+/// can't connect to it.
 fn is_unspecified(address: &str) -> bool {
     let host = match address.rsplit_once(':') {
         Some((host, _)) if !address.ends_with(']') => host,
@@ -13,7 +14,7 @@ fn is_unspecified(address: &str) -> bool {
     host == "0.0.0.0" || host == "[::]"
 }
 
-/// Returns the line that warns of identifiers that begin with an address that leads nowhere.
+/// Returns the warning about identifiers with an address that leads nowhere.
 fn nowhere_line(alloc: Global, address: &str) -> Result<String, AllocError> {
     format!(in alloc;
         "lra: identifiers that begin with http://{address}/ lead nowhere: name by --base \
@@ -21,7 +22,7 @@ fn nowhere_line(alloc: Global, address: &str) -> Result<String, AllocError> {
     )
 }
 
-/// Warns where the identifiers that a service gives at an address lead nowhere.
+/// Warns if the identifiers of a service at an address lead nowhere.
 pub(crate) fn warn_of_nowhere<H: Herald>(
     alloc: Global,
     options: &Options<'_>,

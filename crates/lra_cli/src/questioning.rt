@@ -12,7 +12,7 @@ use std::thread::Threads;
 use std::time::Clock;
 use std::{fs, io};
 
-/// Returns how many bytes a file has; 0 where the system doesn't say.
+/// Returns how many bytes a file has, or 0 where the system doesn't say.
 fn size_of<R: Files>(rt: &R, path: &str) -> u64 {
     match fs::metadata(rt, path) {
         Ok(about) => about.len(),
@@ -32,7 +32,7 @@ fn size_in<R: AllocGlobal + Files + Clone + Drop>(rt: &R, folder: &str) -> Resul
     Ok(all)
 }
 
-/// Returns what is done with each journal of a folder, where an invocation is of a folder.
+/// Returns the deed for each journal of a folder, if the invocation names a folder.
 fn deed_of<R: Files>(rt: &R, invocation: Invocation<'_>) -> Option<Deed> {
     match invocation {
         Invocation::Audit { file } if is_folder(rt, file) => Some(Deed::Audit),
@@ -41,7 +41,7 @@ fn deed_of<R: Files>(rt: &R, invocation: Invocation<'_>) -> Option<Deed> {
     }
 }
 
-/// Returns how many bytes an invocation reads: an upgrade reads its file twice.
+/// Returns how many bytes an invocation reads. An upgrade reads its file twice.
 fn size_read<R: AllocGlobal + Files + Clone + Drop>(
     rt: &R,
     invocation: Invocation<'_>,
@@ -55,7 +55,7 @@ fn size_read<R: AllocGlobal + Files + Clone + Drop>(
     }
 }
 
-/// Carries out an invocation, and returns the program's status. The watcher is told how far it is.
+/// Carries out an invocation, and returns the program's status. The watcher reports the progress.
 fn answer_invocation<
     R: AllocGlobal
         + Files<File = File>
@@ -89,7 +89,7 @@ fn answer_invocation<
     settle(rt, outcome, place)
 }
 
-/// Answers a question on standard output, and returns the program's status. The watcher is told how far it is.
+/// Answers a question on standard output, and returns the program's status. The watcher reports the progress.
 pub(crate) fn answer_watched<
     R: AllocGlobal
         + Files<File = File>

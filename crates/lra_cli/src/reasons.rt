@@ -1,5 +1,4 @@
-//! The reasons for which the system doesn't give what a call needs, behind the line of the fault: on a terminal, and in
-//! a log.
+//! Reasons of the system for a fault, reported after the fault's line on a terminal and in a log.
 
 use crate::misuse::{misuse_line, misuse_of};
 use lra_audits::{tell, tell_usage};
@@ -17,13 +16,13 @@ use std::rt::Files;
 use std::sync::Wait;
 use std::time::Clock;
 
-/// The status of a call that has no answer.
+/// Status of a call that fails.
 const FAULT: u8 = 2;
 
-/// Why something isn't had.
+/// Reason why something isn't available.
 #[derive(Clone, Copy, Debug, PartialEq, Eq)]
 pub(crate) enum Reason {
-    /// The system says so.
+    /// Error of the system.
     System(ErrorKind),
     /// Another process holds the lock of the file.
     Held,
@@ -31,7 +30,7 @@ pub(crate) enum Reason {
     NoAddress,
 }
 
-/// The thing that the line of a fault says isn't had.
+/// Thing that isn't available, by the line of a fault.
 #[derive(Clone, Copy, Debug, PartialEq, Eq)]
 enum Lacked<'a> {
     /// A file that can't be read.
@@ -40,11 +39,11 @@ enum Lacked<'a> {
     Written(&'a str),
     /// An address that can't be served.
     Served(&'a str),
-    /// Nothing of the system's.
+    /// Nothing that the system could give a reason for.
     Nothing,
 }
 
-/// Returns what the line of a fault says that isn't had.
+/// Returns the thing that isn't available, by the line of a fault.
 fn lacked_in(line: &str) -> Lacked<'_> {
     let said = line.strip_suffix("\n").unwrap_or(line);
     if let Some(path) = said.strip_prefix("lra: cannot read ") {
@@ -59,10 +58,10 @@ fn lacked_in(line: &str) -> Lacked<'_> {
     }
 }
 
-/// Returns why a file can't be read, where the system says so when it is asked once more.
+/// Returns the reason why a file can't be read, if a second try fails too.
 fn why_unread<R: Files<File = File>>(rt: &R, path: &str) -> Option<Reason> {
     match fs::metadata(rt, path) {
-        // What is neither a file nor a folder may have the reader wait.
+        // Reading anything but a file or a folder may block.
         Ok(about) if !about.is_file() && !about.is_dir() => return None,
         Ok(_) => {}
         Err(error) => return Some(Reason::System(error.kind())),
@@ -77,7 +76,7 @@ fn why_unread<R: Files<File = File>>(rt: &R, path: &str) -> Option<Reason> {
     }
 }
 
-/// Returns the folder that a path is in.
+/// Returns the folder of a path.
 fn folder_of(path: &str) -> &str {
     match path.rsplit_once('/') {
         Some(("", _)) => "/",
@@ -86,7 +85,7 @@ fn folder_of(path: &str) -> &str {
     }
 }
 
-/// Returns why a file can't be written, where the system says so when it is asked once more. No file is made.
+/// Returns the reason why a file can't be written, if a second try fails too. Creates no file.
 fn why_unwritten<R: Files<File = File>>(rt: &R, path: &str) -> Option<Reason> {
     match fs::metadata(rt, path) {
         Ok(about) if !about.is_file() => return None,
@@ -107,7 +106,7 @@ fn why_unwritten<R: Files<File = File>>(rt: &R, path: &str) -> Option<Reason> {
     }
 }
 
-/// Returns why an address can't be served, where the system says so when it is asked once more.
+/// Returns the reason why an address can't be served, if a second try fails too.
 fn why_unserved<R: AllocGlobal + Net<Stream = TcpStream, Listener = TcpListener>>(
     rt: &R,
     address: &str,
@@ -122,7 +121,7 @@ fn why_unserved<R: AllocGlobal + Net<Stream = TcpStream, Listener = TcpListener>
     }
 }
 
-/// Returns why what the line of a fault says isn't had.
+/// Returns the reason for the line of a fault, if the system gives one.
 fn why<R: AllocGlobal + Files<File = File> + Net<Stream = TcpStream, Listener = TcpListener>>(
     rt: &R,
     line: &str,
@@ -135,7 +134,7 @@ fn why<R: AllocGlobal + Files<File = File> + Net<Stream = TcpStream, Listener = 
     }
 }
 
-/// Says a reason in words.
+/// Returns the words of a reason.
 fn reason_text(alloc: Global, reason: Reason) -> Result<String, AllocError> {
     match reason {
         Reason::System(ErrorKind::NotFound) => String::from_str(alloc, "no such file or folder"),
@@ -160,13 +159,13 @@ fn with_reason(alloc: Global, line: &str, reason: Reason) -> Result<String, Allo
     format!(in alloc; "{said}: {text}\n")
 }
 
-/// A log that faults are written to, or none.
+/// Log of faults, or none.
 pub(crate) trait FaultLog {
     /// Writes a line at the level of errors.
     fn note_fault(&self, line: &str);
 }
 
-/// No log.
+/// Absence of a log.
 pub(crate) struct Unlogged;
 
 impl FaultLog for Unlogged {
@@ -181,7 +180,7 @@ impl<R: Eprint + Clock + Wait> FaultLog for Book<R> {
     }
 }
 
-/// A log that isn't there where its options are wrong.
+/// Log that is absent where its options are wrong.
 impl<R: Eprint + Clock + Wait> FaultLog for Result<Book<R>, OptionsFault> {
     fn note_fault(&self, line: &str) {
         if let Ok(book) = self {
@@ -190,15 +189,15 @@ impl<R: Eprint + Clock + Wait> FaultLog for Result<Book<R>, OptionsFault> {
     }
 }
 
-/// Writes to a log that a journal isn't sound.
+/// Logs that a journal isn't sound.
 pub(crate) fn log_unsound<L: FaultLog>(alloc: Global, log: &L, file: &str) {
     if let Ok(line) = format!(in alloc; "lra: {file} is not sound\n") {
         log.note_fault(line.as_str());
     }
 }
 
-/// Reports the line of a fault, and why: where a terminal shows standard error, and in the log, if there is one.
-/// Returns the program's status.
+/// Reports the line of a fault. If standard error is a terminal, and in the log, if there is one, reports the reason
+/// too. Returns the program's status.
 pub(crate) fn fail<
     R: AllocGlobal + Files<File = File> + Net<Stream = TcpStream, Listener = TcpListener> + Eprint,
     H: Herald,
@@ -222,8 +221,8 @@ pub(crate) fn fail<
     FAULT
 }
 
-/// Reports behind the fault of a call, where a terminal shows it, why the place that it names can't be read. Returns
-/// the call's status.
+/// Reports why the path that a failed call names can't be read, if standard error is a terminal. Returns the call's
+/// status.
 pub(crate) fn behind<R: AllocGlobal + Files<File = File>, H: Herald>(
     rt: &R,
     watcher: &H,
@@ -243,7 +242,8 @@ pub(crate) fn behind<R: AllocGlobal + Files<File = File>, H: Herald>(
     status
 }
 
-/// Tells that words ask for nothing, and why where a terminal shows it. Returns the program's status.
+/// Reports that a command line is refused, and the reason if standard error is a terminal. Returns the program's
+/// status.
 pub(crate) fn tell_misuse<R: AllocGlobal + Eprint, H: Herald>(
     rt: &R,
     watcher: &H,

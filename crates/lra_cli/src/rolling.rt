@@ -22,8 +22,8 @@ use std::sync::Wait;
 use std::thread::Threads;
 use std::time::Clock;
 
-/// The status of a service over a folder that has ended, or isn't there. A fault is told, and so is where a journal
-/// isn't sound the way to what is sound of it.
+/// Returns the status of a service over a folder that has ended, or couldn't start. Reports a fault. If a journal isn't
+/// sound, reports how to salvage it.
 fn settle_rolling<
     R: AllocGlobal + Files<File = File> + Net<Stream = TcpStream, Listener = TcpListener> + Eprint,
     H: Herald,
@@ -51,7 +51,7 @@ fn settle_rolling<
     }
 }
 
-/// Tells what would be served of a folder. The watcher is told how far journals have been read.
+/// Reports what would be served of a folder. The watcher reports how far journals have been read.
 pub(crate) fn check_rolling<
     R: AllocGlobal
         + Files<File = File>
@@ -82,7 +82,7 @@ pub(crate) fn check_rolling<
     settle_rolling(rt, told, options, watcher, &Unlogged)
 }
 
-/// Writes what is said of the options whose values are texts, behind what would be served.
+/// Writes the values of the options that are texts, after the report of what would be served.
 fn tell_words<R: AllocGlobal + Print>(
     rt: &R,
     options: &Options<'_>,
@@ -91,8 +91,8 @@ fn tell_words<R: AllocGlobal + Print>(
     Ok(FolderServed::Ended)
 }
 
-/// Serves a folder, until an input has ended if there is one, and answers the program's status. The watcher is told how
-/// far journals have been read.
+/// Serves a folder, and returns the program's status. The service ends once the input has ended, if there is one. The
+/// watcher reports how far journals have been read.
 pub(crate) fn serve_rolling<
     R: AllocGlobal
         + Files<File = File>

@@ -33,7 +33,7 @@ use std::sync::Wait;
 use std::thread::Threads;
 use std::time::Clock;
 
-/// A file that takes and gives nothing, if it can be had.
+/// Opens a file that discards writes and is empty to read, if that can be had.
 fn nothing<R: Files<File = File>>(rt: &R) -> Option<File> {
     OpenOptions::new()
         .read(true)
@@ -42,13 +42,13 @@ fn nothing<R: Files<File = File>>(rt: &R) -> Option<File> {
         .ok()
 }
 
-/// Files with the system's numbers of those standard streams that are closed: else the journal's file would get one,
-/// and what is printed would go there.
+/// Opens files that take the descriptors of those standard streams that are closed. Otherwise the journal's file would
+/// get one of these, and what is printed would be written to it.
 fn stand_ins<R: Files<File = File>>(rt: &R) -> [Option<File>; 3] {
     [nothing(rt), nothing(rt), nothing(rt)]
 }
 
-/// Returns whether words ask for a service by options.
+/// Returns whether a command line asks for a service and has options.
 pub(crate) fn have_options(words: &[String]) -> bool {
     match words {
         [verb, rest @ ..] => {
@@ -58,7 +58,7 @@ pub(crate) fn have_options(words: &[String]) -> bool {
     }
 }
 
-/// Standard input, to be read by a thread of its own. What reads a child's output reads any descriptor.
+/// Returns standard input, for a thread of its own. The type that reads a child's output reads any descriptor.
 pub(crate) fn standard_input<R: Input>(rt: &R) -> io::Result<ChildStdout>
 where
     R::Reader: AsFd,
@@ -68,15 +68,15 @@ where
     Ok(ChildStdout::from(input))
 }
 
-/// Names the way to what is sound of a journal that isn't served, on standard error.
+/// Reports on standard error how to salvage a journal that isn't served.
 pub(crate) fn tell_way<R: AllocGlobal + Eprint>(rt: &R, file: &str) {
     if let Ok(line) = hint_line(rt.alloc(), file) {
         let _ = eprint!(rt; "{line}");
     }
 }
 
-/// The status of a service that has ended, or isn't there. A fault is told, and so is where a journal isn't sound the
-/// way to what is sound of it.
+/// Returns the status of a service that has ended, or couldn't start. Reports a fault. If the journal isn't sound,
+/// reports how to salvage it.
 fn settle_serving<
     R: AllocGlobal + Files<File = File> + Net<Stream = TcpStream, Listener = TcpListener> + Eprint,
     H: Herald,
@@ -120,7 +120,7 @@ fn put_list<W: Write>(
     Ok(put(writer, line.as_bytes())?)
 }
 
-/// Writes what is said of the options whose values are texts, but for the bases, behind what would be served.
+/// Writes the values of the options that are texts, without the bases, after the report of what would be served.
 pub(crate) fn put_words<W: Write>(
     alloc: Global,
     options: &Options<'_>,
@@ -140,7 +140,7 @@ pub(crate) fn put_words<W: Write>(
     put_flag("restored = true\n", options.is_restored, writer)
 }
 
-/// Writes the line of an option that is said.
+/// Writes the line of an option that is set.
 fn put_flag<W: Write>(line: &str, is_said: bool, writer: &mut W) -> Result<(), ServeFault> {
     if is_said {
         put(writer, line.as_bytes())?;
@@ -148,7 +148,7 @@ fn put_flag<W: Write>(line: &str, is_said: bool, writer: &mut W) -> Result<(), S
     Ok(())
 }
 
-/// That what a folder alone can do isn't asked of a file.
+/// Returns a fault if an option that needs a folder is used with a file.
 fn require_folder<R: AllocGlobal + Files>(
     rt: &R,
     options: &Options<'_>,
@@ -170,7 +170,7 @@ fn require_folder<R: AllocGlobal + Files>(
     }
 }
 
-/// The terms of a service at an address, of options with which nothing is wrong.
+/// Returns the parts of the access policy of a service at an address. Checks first that the options fit the file.
 fn sound_grounds<R: AllocGlobal + Files<File = File> + KeyFiles + Fenced>(
     rt: &R,
     options: &Options<'_>,
@@ -180,7 +180,7 @@ fn sound_grounds<R: AllocGlobal + Files<File = File> + KeyFiles + Fenced>(
     grounds_of(rt, options, address)
 }
 
-/// Finds what is wrong with options, before anything is served by them.
+/// Checks the options, before anything is served.
 fn look_over<R: AllocGlobal + Files<File = File> + KeyFiles + Fenced + Env + Clone + Drop>(
     rt: &R,
     options: &Options<'_>,
@@ -192,7 +192,7 @@ fn look_over<R: AllocGlobal + Files<File = File> + KeyFiles + Fenced + Env + Clo
     Ok(())
 }
 
-/// Tells what would be served of a file. The watcher is told how far the journal has been read.
+/// Reports what would be served of a file. The watcher reports how far the journal has been read.
 fn check_file<
     'a,
     R: AllocGlobal + Files<File = File> + Clone + Drop + Clock + Print + Eprint,
@@ -217,7 +217,8 @@ fn check_file<
     )
 }
 
-/// Tells what would be served. The watcher is told how far the journal has been read.
+/// Reports what would be served, and returns the program's status. The watcher reports how far the journal has been
+/// read.
 fn answer_check<
     R: AllocGlobal
         + Files<File = File>
@@ -250,7 +251,7 @@ fn answer_check<
     settle_serving(rt, told, options, watcher, &Unlogged)
 }
 
-/// The key that operators have to give, if a file of one is named.
+/// Reads the key that operators have to give, if its file is named.
 fn key_of<R: AllocGlobal + Files<File = File>>(
     rt: &R,
     path: Option<&str>,
@@ -261,7 +262,7 @@ fn key_of<R: AllocGlobal + Files<File = File>>(
     }
 }
 
-/// Where operators come in, if an address for them is named.
+/// Opens the operators' server, if an address for it is named.
 fn operators_of<
     R: AllocGlobal + Files<File = File> + Net<Stream = TcpStream, Listener = TcpListener> + Timed,
 >(rt: &R, options: &Options<'_>) -> Result<Option<Watchpost>, PortFault> {
@@ -272,7 +273,7 @@ fn operators_of<
     Ok(Some(Watchpost::open(rt, rt.alloc(), address, key)?))
 }
 
-/// Tells why there is no port for operators. The answer is the program's status.
+/// Reports why there is no operators' server, and returns the program's status.
 fn tell_port<
     R: AllocGlobal + Files<File = File> + Net<Stream = TcpStream, Listener = TcpListener> + Eprint,
     H: Herald,
@@ -282,7 +283,7 @@ fn tell_port<
     fail(rt, watcher, log, port_line(rt.alloc(), fault, address))
 }
 
-/// The log of a service, as its options say: one that is off, where none is asked for.
+/// Returns the log of a service, as its options say. It is off if they ask for none.
 fn book_of<R: AllocGlobal + Env + Clone + Drop>(
     rt: &R,
     said: &Said,
@@ -311,13 +312,13 @@ fn book_of<R: AllocGlobal + Env + Clone + Drop>(
     }
 }
 
-/// That a text is none of those that an option may have.
+/// Returns the fault of a text that is none of those that an option may have.
 fn unknown(alloc: Global, word: Word, text: &str, those: &str) -> OptionsFault {
     let name = word.name();
     wrong(format!(in alloc; "--{name}: {text} is not {those}"))
 }
 
-/// Serves a file's coordinator. The watcher is told how far the journal has been read.
+/// Serves a file's coordinator. The watcher reports how far the journal has been read.
 fn serve_file<
     'a,
     R: AllocGlobal
@@ -363,8 +364,8 @@ fn serve_file<
     )
 }
 
-/// Serves, until an input has ended if there is one, and answers the program's status. The watcher is told how far the
-/// journal has been read.
+/// Serves, and returns the program's status. The service ends once the input has ended, if there is one. The watcher
+/// reports how far the journal has been read.
 fn answer_until<
     R: AllocGlobal
         + Files<File = File>
@@ -384,7 +385,7 @@ fn answer_until<
         + Drop,
     H: Herald + Sync,
 >(rt: &R, options: &Options<'_>, input: Option<ChildStdout>, watcher: &H) -> u8 {
-    // What is wrong with its options is told after what else is.
+    // A fault of its options is reported after all others.
     let book = book_of(rt, &options.said);
     let post = match operators_of(rt, options) {
         Ok(post) => post,
@@ -450,7 +451,7 @@ fn answer_until<
     status
 }
 
-/// Serves with the usual settings, and answers the program's status.
+/// Serves with the default settings, and returns the program's status.
 pub(crate) fn answer_serve<
     R: AllocGlobal
         + Files<File = File>
@@ -486,7 +487,7 @@ pub(crate) fn answer_serve<
     answer_until(rt, &options, None, watcher)
 }
 
-/// Serves by options, and answers the program's status.
+/// Serves with options, and returns the program's status.
 fn answer_serving<
     R: AllocGlobal
         + Files<File = File>
@@ -525,8 +526,7 @@ where
     }
 }
 
-/// Prints the line of what is wrong with options on standard error, or help on standard output. The answer is the
-/// program's status.
+/// Reports a fault of options on standard error, or prints help on standard output. Returns the program's status.
 fn tell_fault<
     R: AllocGlobal
         + Files<File = File>
@@ -555,7 +555,7 @@ fn tell_fault<
     }
 }
 
-/// Carries out what the words of a service by options ask for, and answers the program's status.
+/// Carries out a command line of a service with options, and returns the program's status.
 pub(crate) fn answer_options<
     R: AllocGlobal
         + Files<File = File>

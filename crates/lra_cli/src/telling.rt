@@ -1,4 +1,4 @@
-//! Help, listings, and journals that are followed.
+//! Help, listings, and following of journals.
 
 use crate::asking::{Asking, Listed};
 use crate::explaining::answer_explain;
@@ -22,13 +22,14 @@ use std::thread::Threads;
 use std::time::Clock;
 use std::{io, thread};
 
-/// Prints the calls of the program, and answers its status.
+/// Prints the calls of the program, and returns its status.
 pub(crate) fn answer_help<R: AllocGlobal + Print + Eprint>(rt: &R) -> u8 {
     let outcome = put(&mut io::writer(rt), HELP.as_bytes());
     settle(rt, outcome.map(|_| 0), "-")
 }
 
-/// Which actions are listed; none where the moment now is asked for and the clock doesn't tell it.
+/// Returns the choice of the actions that are listed. Returns nothing if the moment now is asked for and the clock
+/// fails.
 fn choice_of<R: Clock>(rt: &R, listed: Listed) -> Option<Choice> {
     let now = if listed.is_now {
         Some(milliseconds(rt)?)
@@ -61,12 +62,12 @@ fn list<R: AllocGlobal + Files + Input + Print + Eprint>(
 #[derive(Drop)]
 struct Listing {
     name: String,
-    /// The lines of each action, behind the journal's name.
+    /// Lines of each action, after the journal's name.
     text: Vec<u8>,
     outcome: Result<u8, RunFault>,
 }
 
-/// Adds the lines of a journal's actions to a text, each behind the journal's name. The answer is its status.
+/// Adds the lines of a journal's actions to a text, each after the journal's name. Returns the journal's status.
 fn add_listing<F: Read + Drop>(
     alloc: Global,
     choice: &Choice,
@@ -81,7 +82,7 @@ fn add_listing<F: Read + Drop>(
     list_run(alloc, file, choice, prefix.as_str(), text)
 }
 
-/// Returns the listing of the journal of a name, whose file this is, where it could be opened.
+/// Returns the listing of a named journal. The file is its own, if that could be opened.
 fn listing_of<F: Read + Drop>(
     alloc: Global,
     choice: &Choice,
@@ -97,8 +98,8 @@ fn listing_of<F: Read + Drop>(
     }
 }
 
-/// Lists the journals of these names, or as many as can be open at once, each by a thread of its own where one can be
-/// started.
+/// Lists the journals of these names, or as many as can be open at once. Each is listed by a thread of its own, where
+/// one can be started.
 fn list_side_by_side<R: AllocGlobal + Files<File = File> + Threads + Input + Sync>(
     rt: &R,
     folder: &str,
@@ -114,7 +115,7 @@ fn list_side_by_side<R: AllocGlobal + Files<File = File> + Threads + Input + Syn
     )
 }
 
-/// Prints what is listed of a journal, and answers its status. One that can't be read is told.
+/// Prints the listing of a journal, and returns its status. Reports a journal that can't be read.
 fn print_listing<R: AllocGlobal + Print + Eprint>(
     rt: &R,
     folder: &str,
@@ -131,8 +132,8 @@ fn print_listing<R: AllocGlobal + Print + Eprint>(
     }
 }
 
-/// Lists the actions of a folder's journals, as many side by side as threads run and files can be open. The answer is
-/// the greatest status of any.
+/// Lists the actions of a folder's journals, as many side by side as threads run and files can be open. Returns the
+/// greatest status of any.
 fn list_found<R: AllocGlobal + Files<File = File> + Threads + Input + Print + Eprint + Sync>(
     rt: &R,
     folder: &str,
@@ -156,7 +157,7 @@ fn list_found<R: AllocGlobal + Files<File = File> + Threads + Input + Print + Ep
     Ok(greatest)
 }
 
-/// Lists actions, and answers the program's status.
+/// Lists actions, and returns the program's status.
 fn answer_list<
     R: AllocGlobal
         + Files<File = File>
@@ -182,7 +183,7 @@ fn answer_list<
     settle(rt, outcome, place)
 }
 
-/// Asks for the end where standard input ends, if that is configured.
+/// Begins to watch standard input, whose end stops the run, if that is configured.
 fn watch_end<R: Threads + Input>(
     rt: &R,
     stop: &Arc<Stop>,
@@ -200,8 +201,8 @@ where
     }
 }
 
-/// Follows the journals of a folder, until a line of one is at fault, one is lost or can't be read, or the end is asked
-/// for.
+/// Follows the journals of a folder, until a line of one is at fault, one is missing or can't be read, or a stop is
+/// requested.
 fn follow_found<R: AllocGlobal + Files<File = File> + Clock + Wait + Print + Eprint + Clone + Drop>(
     rt: &R,
     folder: &str,
@@ -224,7 +225,7 @@ fn follow_found<R: AllocGlobal + Files<File = File> + Clock + Wait + Print + Epr
     Ok(0)
 }
 
-/// Follows a journal or those of a folder, and answers the program's status.
+/// Follows a journal or those of a folder, and returns the program's status.
 fn follow_place<R: AllocGlobal + Files<File = File> + Clock + Wait + Print + Eprint + Clone + Drop>(
     rt: &R,
     place: &str,
@@ -237,8 +238,8 @@ fn follow_place<R: AllocGlobal + Files<File = File> + Clock + Wait + Print + Epr
     }
 }
 
-/// Follows a journal or those of a folder, until standard input ends if it is to be so, and answers the program's
-/// status.
+/// Follows a journal or those of a folder, and returns the program's status. Stops at the end of standard input, if
+/// that is configured.
 fn answer_follow<
     R: AllocGlobal
         + Files<File = File>
@@ -263,7 +264,7 @@ where
     }
 }
 
-/// Answers what these words ask for, and gives the program's status.
+/// Answers a question, and returns the program's status.
 pub(crate) fn answer_asking<
     R: AllocGlobal
         + Files<File = File>

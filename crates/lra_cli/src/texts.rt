@@ -1,6 +1,6 @@
-//! The texts in which the program speaks of itself.
+//! Texts about the program itself.
 
-/// The ways in which the program is called.
+/// Calls of the program.
 pub(crate) const HELP: &str = "\
 lra                               audits standard input
 lra audit FILE                    audits a journal, or all that a folder has

@@ -1,4 +1,4 @@
-//! The reasons why a folder isn't served.
+//! Reasons why a folder isn't served.
 
 use lra_audits::RunFault;
 use lra_opening::{ServeFault, fault_line};
@@ -7,11 +7,11 @@ use std::alloc::{AllocError, AllocFailed, Global};
 /// Reason why a folder isn't served, or is served no more.
 #[derive(Debug, Drop)]
 pub enum RollingFault {
-    /// As a file of that path wouldn't be.
+    /// Fault of the file of that path.
     Of { fault: ServeFault, path: String },
-    /// The same, of the folder itself.
+    /// Fault of the folder itself.
     Here(ServeFault),
-    /// For the reason that a line tells.
+    /// Fault with its line for standard error.
     Told(String),
 }
 
@@ -52,7 +52,7 @@ impl<T: Drop> From<AllocFailed<T>> for RollingFault {
     }
 }
 
-/// A fault of a file in the folder: memory, and what isn't of the file, is of the folder.
+/// Returns a fault of the file of that path. Where memory is refused it is a fault of the folder.
 pub fn fault_at(alloc: Global, fault: ServeFault, path: &str) -> RollingFault {
     match String::from_str(alloc, path) {
         Ok(path) => RollingFault::Of { fault, path },
@@ -60,7 +60,7 @@ pub fn fault_at(alloc: Global, fault: ServeFault, path: &str) -> RollingFault {
     }
 }
 
-/// A fault that a line tells.
+/// Returns the fault with that line.
 pub fn told(line: Result<String, AllocError>) -> RollingFault {
     match line {
         Ok(line) => RollingFault::Told(line),
@@ -68,7 +68,7 @@ pub fn told(line: Result<String, AllocError>) -> RollingFault {
     }
 }
 
-/// The line on standard error for a fault of a folder that is served at an address.
+/// Returns the line on standard error for a fault of a folder that is served at an address.
 pub fn rolling_line(
     alloc: Global,
     fault: RollingFault,

@@ -1,4 +1,4 @@
-//! Members that operators have given up, as a file of a folder notes them, a line each.
+//! Members that operators have given up. A file of the folder has a line for each.
 
 ghost use Rattle.std.specs.Prelude.{◌≡◌, IfOk, IfSome, string_bytes};
 ghost use Rattle.lra_journal_folder.specs.GivenUp as spec;
@@ -6,16 +6,16 @@ ghost use Rattle.lra_journal_folder.specs.GivenUp as spec;
 use lra_model::{Instance, Memory};
 use std::alloc::Global;
 
-/// A member that isn't told any more that its action has ended.
+/// A member that isn't notified any more that its action has ended.
 #[derive(Clone, Copy, Debug, PartialEq, Eq)]
 pub struct GivenUp {
-    /// The instance of its journal.
+    /// Instance of the member's journal.
     pub journal: Instance,
-    /// Its number there.
+    /// Number of the member in that journal.
     pub member: u64,
 }
 
-/// Returns the line that notes a member.
+/// Returns the line of a member.
 pub fn given_up_line(alloc: Global, given: GivenUp) -> Result<String, Memory>
     ensures { IfOk result (λ line. string_bytes line ≡ spec.line given) }
 {
@@ -24,7 +24,7 @@ pub fn given_up_line(alloc: Global, given: GivenUp) -> Result<String, Memory>
     format!(in alloc; "{journal} {member} given up\n")
 }
 
-/// Returns the journal's instance and the member's number that a text may note.
+/// Reads the journal's instance and the member's number from a text that may be a line.
 fn numbers_in(text: &str) -> Option<(Instance, u64)> {
     let (numbers, _) = text.split_once(" given up")?;
     let (journal, member) = numbers.split_once(' ')?;
@@ -32,8 +32,7 @@ fn numbers_in(text: &str) -> Option<(Instance, u64)> {
     Some((journal, member.parse::<u64>().ok()?))
 }
 
-/// Returns the member that a line notes, with the line feed at its end. None where it isn't the line of one, as where a
-/// write was cut off.
+/// Reads a member from a line with its line feed. Returns nothing for any other text, such as a line that was cut off.
 pub fn given_up_in(alloc: Global, line: &str) -> Result<Option<GivenUp>, Memory>
     ensures { IfOk result (λ found. IfSome found (λ given. line.now ≡ spec.line given)) }
 {

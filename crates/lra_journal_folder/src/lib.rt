@@ -1,4 +1,4 @@
-//! A folder of journals on disk: its names, its lock, the file of the greatest instance, what was put away, and its
+//! A folder of journals on disk: its names, its lock, the file of the greatest instance, the archived journals, and its
 //! journals, found and audited.
 #![tactic(auto)]
 

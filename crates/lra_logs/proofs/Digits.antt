@@ -1,4 +1,4 @@
--- Numbers with zeros in front, as they are written.
+-- Numbers with zeros before them, as they are written.
 use Rattle.std.proofs.Common.{◌≡◌, ◌-◌, ◌^◌, ℕ, false, [], length, refl, arith}
 use Rattle.std.specs.Fmt.{decimal, digits, padded_integral, format_spec, char_count}
 use mathlib.Core.List.{append-nil}

@@ -7,12 +7,12 @@ use Rattle.lra_logs.specs.Escapes.{shown_char, escaped}
 chars_of_empty : (text : List ℕ) → length text ≡ 0 → chars text ≡ []
 chars_of_empty text none = ap chars (nil_from_length text none) ∙ chars-nil
 
--- of no text there is nothing
+-- an empty text is escaped as nothing
 pub escaped_empty : (text : List ℕ) → length text ≡ 0 → escaped text ≡ []
 unfolding escaped
 escaped_empty text none = rw (chars_of_empty text none)
 
--- of a text that begins with a character, that one is first
+-- a text that begins with a character is escaped with that character first
 pub escaped_step : (text rest : List ℕ) (c : ℕ) → IsUtf8 text → text ≡ encode_utf8 c ++ rest → escaped text
     ≡ encode_utf8_all (shown_char c) ++ escaped rest
 unfolding escaped

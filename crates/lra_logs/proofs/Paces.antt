@@ -1,4 +1,4 @@
--- What follows of the pace of lines.
+-- What follows for the rate limiter.
 use Rattle.std.proofs.Common.{◌≡◌, ℕ, ◌+◌, ◌/◌, ◌^◌, ◌<◌, ◌≤◌, ◌==◌, Bool, true, false, nat_lt, if◌then◌else◌, List, []}
 use Rattle.std.proofs.Common.{◌∷◌, length, sum_by, inl, inr, refl, sym, subst, ◌∙◌, arith}
 use Rattle.std.proofs.lemmas.Bool.{cases_eq}
@@ -9,13 +9,13 @@ use Rattle.lra_logs.specs.declared.meter.Verdict.TheVariants.{Write, WriteAfter,
 use Rattle.lra_logs.specs.Meters.{Pace, Coming, at_rest, turned, share, unless_urgent, verdict_at, after, run, ran}
 use Rattle.lra_logs.specs.Meters.{lines, told, AreFew, AreCounted, AreHeard}
 
--- so many lines may still come in a second: none in one that is over
+-- the limit leaves so many more lines to a second: none to one that is over
 record MayCome (p : Pace) (second n : ℕ) : Type 0 where
   over : second < p.second → n ≡ 0
   now : second ≡ p.second → n + p.written ≤ 100
   later : n ≤ 100
 
--- the lines of a verdict count in its second
+-- how many lines a decision counts in a second
 count : ℕ → ℕ → Bool → Verdict → ℕ
 count second own urgent v = if own == second then lines urgent v else 0
 
@@ -37,7 +37,7 @@ after_written p u Write = refl
 after_written p u (WriteAfter n) = refl
 after_written p u Suppress = omega arith
 
--- a verdict's lines have room in its second
+-- a decision's lines fit in its second
 step : (p : Pace) (second n : ℕ) (u : Bool) (v : Verdict) → p.written + lines u v ≤ 100 → MayCome (after p u v) second n
     → MayCome p second (count second p.second u v + n)
 step p second n u v room h = elim (cases_eq p.second second) [
@@ -79,22 +79,22 @@ turned_room_by false p next h = h
 turned_room : (p : Pace) (moment : ℕ) → p.written ≤ 100 → (turned p moment).written ≤ 100
 turned_room p moment h = turned_room_by (nat_lt p.second (moment / 1000)) p (moment / 1000) h
 
--- what becomes of a line, by how the tests on it come out
+-- the decision on a line, by the results of its tests
 chosen : (none one two urgent : Bool) (n : ℕ) → Verdict
 chosen none one two urgent n = if none then (if one then Write else unless_urgent urgent) else
     (if two then WriteAfter n else unless_urgent urgent)
 
--- a line for which there is no room takes none
+-- a line beyond the limit uses none of it
 none_fits : (p : Pace) (u : Bool) → p.written ≤ 100 → p.written + lines u (unless_urgent u) ≤ 100
 none_fits p true h = omega (arith, h)
 none_fits p false h = omega (arith, h)
 
--- a line takes one at most
+-- a line uses at most one
 share_fits : (u : Bool) → share u ≤ 1
 share_fits true = omega arith
 share_fits false = omega arith
 
--- a verdict keeps to the room
+-- a decision keeps to the limit
 fits_by : (none one two u : Bool) (p : Pace) → nat_lt p.written 100 ≡ one → nat_lt (p.written + share u) 100 ≡ two
     → p.written ≤ 100
     → p.written + lines u (chosen none one two u p.suppressed) ≤ 100
@@ -134,7 +134,7 @@ few_from (c ∷ rest_came) p second h =
 pub few : AreFew
 few came second = (few_from came at_rest second (omega arith)).later
 
--- ---- each line is told of once
+-- ---- each line is reported once
 
 turned_waits_by : (b : Bool) (p : Pace) (next : ℕ)
     → (if b then record { second = next; written = 0; suppressed = p.suppressed } else p).suppressed ≡ p.suppressed
@@ -144,7 +144,7 @@ turned_waits_by false p next = refl
 turned_waits : (p : Pace) (moment : ℕ) → (turned p moment).suppressed ≡ p.suppressed
 turned_waits p moment = turned_waits_by (nat_lt p.second (moment / 1000)) p (moment / 1000)
 
--- a line for which there is no room is told or waits
+-- a line beyond the limit is written or waits to be reported
 none_waits : (p : Pace) (u : Bool) → p.suppressed + 1 < 2 ^ 64 → told (unless_urgent u)
     + (after p u (unless_urgent u)).suppressed ≡ p.suppressed + 1
 none_waits p true h = omega arith
@@ -163,7 +163,7 @@ waits : (p : Pace) (u : Bool) → p.suppressed + 1 < 2 ^ 64 → told (verdict_at
 unfolding chosen
 waits p u h = waits_by (p.suppressed == 0) (nat_lt p.written 100) (nat_lt (p.written + share u) 100) u p h
 
--- of how many lines one learns in a run
+-- how many lines a run accounts for
 abbrev told_in : List (ℕ × Bool × Verdict) → ℕ
 told_in came = sum_by (λ x. told x.2) came
 

@@ -7,7 +7,7 @@ use Rattle.jiff_core.specs.Date.{epoch_day}
 use Rattle.jiff_core.specs.Calendar.{IsEpochDay}
 use Rattle.lra_logs.specs.Times.{IsTime, day_of, date_text, clock_text}
 
--- of a moment in the years that there are
+-- the text of a moment in the years that dates have
 in_years : (moment : ℕ) (d : Date) (text : List ℕ) → epoch_day d ≡ pos (day_of moment)
     → IsEpochDay (pos (day_of moment)) → text ≡ date_text d ++ (codes "T" ++ (clock_text moment ++ codes "Z"))
     → IsTime moment text
@@ -17,7 +17,7 @@ in_years moment d text day within is = record {
       λ later. absurd (omega (arith, signed_arith, within.1, later));
 }
 
--- and of any other
+-- the text of any other moment
 past_years : (moment : ℕ) (text : List ℕ) → (IsEpochDay (pos (day_of moment)) → ⊥) → text ≡ decimal moment
     → IsTime moment text
 past_years moment text not_within is = record {

@@ -1,4 +1,4 @@
--- What is told of a service: at which level, in which words, and with which numbers.
+-- The events of a service: their levels, words and fields.
 use Rattle.std.specs.Prelude.{ℕ, ◌-◌, List, [], ◌∷◌, ◌++◌, false, Option, Some, None, length, replicate, codes}
 use Rattle.std.specs.Prelude.{if◌then◌else◌}
 use Rattle.std.specs.Fmt.{decimal, digits}
@@ -18,7 +18,7 @@ use Rattle.lra_logs.specs.declared.event.Port.{Port}
 use Rattle.lra_logs.specs.declared.event.Port.TheVariants as port
 use Rattle.lra_logs.specs.declared.event.Field.{Field}
 
--- the level that an event is told at
+-- the level at which an event is logged (this project's choice)
 abbrev pub level_of : Event → Level
 level_of (event.Serving journals workers) = level.Info
 level_of event.Ended = level.Info
@@ -39,7 +39,7 @@ level_of event.SyncFailed = level.Error
 level_of (event.Refused port code) = level.Warn
 level_of (event.Suppressed lines) = level.Warn
 
--- what it is called
+-- the message of an event (this project's choice)
 abbrev pub message_of : Event → List ℕ
 message_of (event.Serving journals workers) = codes "serving"
 message_of event.Ended = codes "ended"
@@ -60,16 +60,16 @@ message_of event.SyncFailed = codes "sync failed"
 message_of (event.Refused port code) = codes "request refused"
 message_of (event.Suppressed lines) = codes "suppressed"
 
--- a number or a word under its key
+-- a field: a number or a word under its key
 abbrev pub field : Key → Shown → Field
 field k s = record { key = k; shown = s }
 
--- what came of a callback, where that is known
+-- the field of a callback's outcome, where that is known
 abbrev pub outcome_field : Option Reply → List Field
 outcome_field None = []
 outcome_field (Some reply) = field key.Outcome (shown.Outcome reply) ∷ []
 
--- its numbers and words
+-- the fields of an event
 abbrev pub fields_of : Event → List Field
 fields_of (event.Serving journals workers) = field key.Journals (shown.Number journals)
     ∷ field key.Workers (shown.Number workers) ∷ []
@@ -118,11 +118,11 @@ abbrev pub port_word : Port → List ℕ
 port_word port.Services = codes "services"
 port_word port.Operators = codes "operators"
 
--- fifteen hexadecimal digits of an instance, which its journal in a folder has its name by
+-- the fifteen hexadecimal digits of an instance, after which its journal in a folder is named
 abbrev pub stem : ℕ → List ℕ
 stem i = replicate (15 - length (digits 16 false i)) 48 ++ digits 16 false i
 
--- what is shown, as text
+-- the text of a field's value
 abbrev pub shown_text : Shown → List ℕ
 shown_text (shown.Number n) = decimal n
 shown_text (shown.Journal journal) = stem journal

@@ -1,10 +1,10 @@
--- What a vigil knows.
+-- The state of an ask tracker.
 use Rattle.std.specs.Prelude.{nat_eq, unwrap_or}
 use Rattle.std.specs.HashMap.{get}
 use Rattle.lra_logs.specs.declared.vigil.Vigil.{Vigil}
 use Rattle.lra_logs.specs.Silences.{Sight}
 
--- what it knows of a journal's entries
+-- what a tracker knows of a journal's entries
 abbrev pub sight_of : Vigil → Sight
 sight_of v = record {
   asked = λ ask. get nat_eq v.asks ask;

@@ -1,4 +1,4 @@
-//! Texts of which a line is made.
+//! Escaped texts in the lines of a log.
 
 ghost use Rattle.std.specs.Prelude.{◌≡◌, ◌++◌, ◌<◌, OnOk, string_bytes, encode_utf8_all};
 ghost use Rattle.std.specs.Char.{digit_char};
@@ -6,7 +6,7 @@ ghost use Rattle.lra_logs.specs.Escapes as spec;
 
 use lra_model::Memory;
 
-/// The hexadecimal digit of a number.
+/// Returns the hexadecimal digit of a number.
 fn digit(number: u32) -> char
     requires { number < 16 }
     ensures { result ≡ digit_char number }
@@ -18,7 +18,7 @@ fn digit(number: u32) -> char
     }
 }
 
-/// Adds a character.
+/// Adds a character. Escapes a control character as its code in two hexadecimal digits, and doubles a reversed solidus.
 fn push_char(line: &mut String, sign: char) -> Result<(), Memory>
     ensures { OnOk result (string_bytes line.new ≡ string_bytes line.old ++ encode_utf8_all (spec.shown_char sign)) }
 {
@@ -34,7 +34,7 @@ fn push_char(line: &mut String, sign: char) -> Result<(), Memory>
     }
 }
 
-/// Adds a text, with no control character in it. Where memory is refused a front of it may have been added.
+/// Adds a text, with its control characters escaped. Where memory is refused a prefix of it may have been added.
 pub(crate) fn push_escaped(line: &mut String, text: &str) -> Result<(), Memory>
     ensures { OnOk result (string_bytes line.new ≡ string_bytes line.old ++ spec.escaped text.now) }
 {

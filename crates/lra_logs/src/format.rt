@@ -1,20 +1,20 @@
-//! The forms in which lines are written.
+//! Formats of the lines.
 
 ghost use Rattle.std.specs.Prelude.{◌≡◌, IfSome, Some};
 
-/// A form in which lines are written.
+/// Format of the lines.
 #[derive(Clone, Copy, Debug, PartialEq, Eq)]
 pub enum Format {
-    /// Words, for who reads them.
+    /// Words, for people.
     Text,
-    /// An object of JSON a line, for what reads them.
+    /// One object of JSON a line, for programs.
     Json,
 }
 
 impl Format {
     ghost use Rattle.lra_logs.specs.Formats.{format_word};
 
-    /// Its word, as an option has it.
+    /// Returns the format's name in an option.
     pub fn name(self) -> &'static str
         ensures { result.now ≡ format_word self }
     {
@@ -24,7 +24,7 @@ impl Format {
         }
     }
 
-    /// The form that an option names.
+    /// Returns the format that an option names.
     pub fn from_name(text: &[u8]) -> Option<Format>
         ensures found { IfSome result (λ format. text.now ≡ format_word format) }
         ensures only { (format : Format) → text.now ≡ format_word format → result ≡ Some format }

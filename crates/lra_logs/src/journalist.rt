@@ -1,4 +1,4 @@
-//! Receivers of what happens.
+//! Event sinks.
 
 ghost use Rattle.std.specs.Prelude.{◌≡◌, false};
 
@@ -6,16 +6,16 @@ use crate::event::Event;
 use log::Level;
 use std::sync::Arc;
 
-/// Receiver of what happens.
+/// Event sink.
 pub trait Journalist {
-    /// Returns whether anything is made of what happens at that level.
+    /// Returns whether the sink uses events at that level.
     fn hears(&self, level: Level) -> bool;
 
-    /// Something has happened.
+    /// Records an event.
     fn note(&self, event: &Event);
 }
 
-/// Receiver that makes nothing of it.
+/// Event sink that drops each event.
 #[derive(Clone, Copy, Debug)]
 pub struct Nobody;
 

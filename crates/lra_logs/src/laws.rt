@@ -2,9 +2,9 @@
 
 ghost use Rattle.lra_logs.specs.Meters.{AreFew, AreCounted, AreHeard};
 
-/// A meter that nothing was written by lets a hundred lines a second through at most beside warnings and errors,
-/// whatever the moments are. It lets each warning and error through, and each line that it doesn't let through is told
-/// of once.
+/// States what a rate limiter does, whatever the moments are. A new one admits at most a hundred lines a second beside
+/// warnings and errors. It admits each warning and each error. Each line is admitted, or reported once as not written,
+/// or still waits to be reported.
 pub fn lines_are_few()
     ensures few { AreFew }
     ensures counted { AreCounted }

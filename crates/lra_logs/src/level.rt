@@ -1,4 +1,4 @@
-//! The levels of what is told, by the kit's `log`.
+//! The levels of lines, by the kit's `log`.
 
 ghost use Rattle.std.specs.Prelude.{◌≡◌, ◌≢◌, IfSome, Some};
 ghost use Rattle.log.specs.declared.level.Level.{Level as LevelValue};
@@ -7,7 +7,7 @@ ghost use Rattle.lra_logs.specs.inner.Urgent as urgent;
 
 pub use log::{Level, LevelFilter};
 
-/// The word of a level, as an option and a line have it.
+/// Returns the word of a level in an option and in a line.
 pub fn level_word(level: Level) -> &'static str
     ensures { result.now ≡ spec.level_word level }
 {
@@ -20,7 +20,7 @@ pub fn level_word(level: Level) -> &'static str
     }
 }
 
-/// The level that an option names. Nothing is told at `trace`, so no option names it.
+/// Returns the level that an option names. Nothing is logged at `trace`, so no option names it.
 pub fn level_named(text: &[u8]) -> Option<Level>
     ensures found { IfSome result (λ level. (text.now ≡ spec.level_word level) × (level ≢ Level.Trace)) }
     ensures only { (level : LevelValue) → level ≢ Level.Trace → text.now ≡ spec.level_word level → result ≡ Some level }
@@ -34,7 +34,7 @@ pub fn level_named(text: &[u8]) -> Option<Level>
     }
 }
 
-/// Returns whether a line at a level is written whatever room there is: a warning or an error.
+/// Returns whether a line at a level is written even where the limit is reached. A warning and an error are.
 pub(crate) fn is_urgent(level: Level) -> bool
     ensures { result ≡ urgent.is_urgent level }
 {
@@ -44,7 +44,7 @@ pub(crate) fn is_urgent(level: Level) -> bool
     }
 }
 
-/// Returns what stands before a line of that level for systemd's journal.
+/// Returns the prefix of a line at that level for systemd's journal.
 pub(crate) fn priority(level: Level) -> &'static str
     ensures { result.now ≡ spec.priority level }
 {

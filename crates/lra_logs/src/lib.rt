@@ -1,5 +1,5 @@
-//! Log of a running service on standard error: events as lines, in text or in JSON, by level, and no more of them in a
-//! second than can be read.
+//! Log of a running service on standard error. Events are lines, in text or in JSON, each at a level. A rate limiter
+//! bounds how many lines a second has.
 #![tactic(auto)]
 
 mod chronicle;

@@ -1,25 +1,25 @@
-//! Limit on the lines that are written in a second.
+//! Rate limiter of the lines.
 
 ghost use Rattle.std.specs.Prelude.{◌≡◌};
 ghost use Rattle.lra_logs.specs.Meters as spec;
 
 use std::marker::Model;
 
-/// Largest number of lines that are written in a second, beside warnings and errors.
+/// Largest number of lines a second, beside warnings and errors.
 const MOST: u64 = 100;
 
 /// Decision on a line.
 #[derive(Clone, Copy, Debug, PartialEq, Eq)]
 pub enum Verdict {
-    /// It is written.
+    /// The line is written.
     Write,
-    /// It is written behind a line which tells that so many weren't.
+    /// The line is written after one that reports how many weren't.
     WriteAfter { suppressed: u64 },
-    /// It isn't written, and counted.
+    /// The line isn't written. It is counted.
     Suppress,
 }
 
-/// Numbers of the lines beside warnings and errors that were written in a second, and of those that weren't.
+/// Rate limiter. It counts the lines of a second beside warnings and errors, and the lines that weren't written.
 #[derive(Debug, Drop)]
 pub struct Meter {
     second: u64,
@@ -35,14 +35,14 @@ impl Model for Meter {
     ghost view = { λ m. record { second = m.second; written = m.written; suppressed = m.suppressed } };
 }
 
-/// Returns how much of the room of a second a line takes: a warning or an error takes none.
+/// Returns how much of a second's limit a line uses. A warning or an error uses none.
 fn share(is_urgent: bool) -> u64
     ensures { result ≡ spec.share is_urgent }
 {
     if is_urgent { 0 } else { 1 }
 }
 
-/// Returns what becomes of a line for which there is no room.
+/// Decides on a line once the limit is reached.
 fn unless_urgent(is_urgent: bool) -> Verdict
     ensures { result ≡ spec.unless_urgent is_urgent }
 {
@@ -54,7 +54,7 @@ fn unless_urgent(is_urgent: bool) -> Verdict
 }
 
 impl Meter {
-    /// Nothing was.
+    /// Returns a rate limiter before the first line.
     pub fn new() -> Meter
         ensures { result ≡ spec.at_rest }
     {
@@ -65,7 +65,7 @@ impl Meter {
         }
     }
 
-    /// A moment has come.
+    /// Begins a new second, if the moment is in a later one.
     fn turn(&mut self, moment: u64)
         ensures { self.new ≡ spec.turned self.old moment }
     {
@@ -76,7 +76,7 @@ impl Meter {
         }
     }
 
-    /// Decides what becomes of a line now.
+    /// Decides on a line now.
     fn verdict(&self, is_urgent: bool) -> Verdict
         ensures { result ≡ spec.verdict_at self.now is_urgent }
     {
@@ -95,8 +95,8 @@ impl Meter {
         }
     }
 
-    /// Decides what becomes of a line at a moment, in milliseconds of a clock that doesn't go back. An urgent one,
-    /// which is a warning or an error, is always written.
+    /// Decides on a line at a moment, in milliseconds of a clock that doesn't go back. An urgent line, which is a
+    /// warning or an error, is always written.
     pub fn admit(&mut self, moment: u64, is_urgent: bool) -> Verdict
         ensures verdict { result ≡ spec.verdict_at (spec.turned self.old moment) is_urgent }
         ensures pace { self.new ≡ spec.after (spec.turned self.old moment) is_urgent result }
@@ -114,8 +114,7 @@ impl Meter {
         verdict
     }
 
-    /// Returns how many lines weren't written of which nothing was told, and forgets them: the caller tells of them
-    /// now.
+    /// Returns how many lines weren't written and weren't reported, and forgets them. The caller reports them now.
     pub fn settle(&mut self) -> u64
         ensures all { result ≡ self.old.suppressed }
         ensures none { self.new ≡ record self.old { suppressed = 0 } }
@@ -125,7 +124,7 @@ impl Meter {
         suppressed
     }
 
-    /// So many lines more weren't written.
+    /// Counts so many more lines as not written.
     pub fn owe(&mut self, lines: u64)
         ensures { self.new ≡ spec.owing self.old lines }
     {

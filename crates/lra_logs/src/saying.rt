@@ -1,9 +1,9 @@
-//! Lines that a service tells anyway, as a log has them.
+//! Lines that a service prints anyway, in the form that a log has them.
 
 ghost use Rattle.std.specs.Prelude.{◌≡◌, codes};
 ghost use Rattle.lra_logs.specs.inner.Sayings as spec;
 
-/// A text without a line feed at its end.
+/// Returns a text without the line feed at its end, if it has one.
 fn unended(text: &str) -> &str
     ensures { spec.HasLostEnd (codes "\n") text.now result.now }
 {
@@ -13,7 +13,7 @@ fn unended(text: &str) -> &str
     }
 }
 
-/// A text without the program's name.
+/// Returns a text without the program's name at its front, if it has it.
 fn unnamed(text: &str) -> &str
     ensures { spec.HasLostFront (codes "lra: ") text.now result.now }
 {
@@ -23,7 +23,7 @@ fn unnamed(text: &str) -> &str
     }
 }
 
-/// Returns what a line says, without the program's name and the line feed.
+/// Returns the message of a line, without the program's name and the line feed.
 pub(crate) fn said(line: &str) -> &str
     ensures { spec.Says line.now result.now }
 {

@@ -1,4 +1,4 @@
-//! Moments in UTC, as RFC 3339 spells them.
+//! Moments in UTC, in the format of RFC 3339.
 
 ghost use Rattle.std.specs.Prelude.{◌≡◌, ◌++◌, codes, IfOk, string_bytes};
 ghost use Rattle.lra_logs.specs.Times as spec;
@@ -10,7 +10,7 @@ use std::alloc::Global;
 /// Number of milliseconds of a day.
 const DAY: u64 = 86_400_000;
 
-/// A date's text.
+/// Returns a date's text.
 #[tactic(auto, using(crate::proofs::Digits::wide_written))]
 fn date_text(alloc: Global, date: Date) -> Result<String, Memory>
     ensures { IfOk result (λ text. string_bytes text ≡ spec.date_text date) }
@@ -20,7 +20,7 @@ fn date_text(alloc: Global, date: Date) -> Result<String, Memory>
     format!(in alloc; "{year:04}-{month:02}-{day:02}")
 }
 
-/// The text of the time of the day.
+/// Returns the text of a moment's time of the day.
 #[tactic(auto, using(crate::proofs::Digits::wide_written))]
 fn clock_text(alloc: Global, moment: u64) -> Result<String, Memory>
     ensures { IfOk result (λ text. string_bytes text ≡ spec.clock_text moment) }
@@ -30,7 +30,7 @@ fn clock_text(alloc: Global, moment: u64) -> Result<String, Memory>
     format!(in alloc; "{hour:02}:{minute:02}:{second:02}.{rest:03}")
 }
 
-/// The text of a moment of a date.
+/// Returns the text of a moment and its date.
 fn spelled(alloc: Global, date: Date, moment: u64) -> Result<String, Memory>
     ensures { IfOk result (λ text. string_bytes text ≡ spec.date_text date
         ++ (codes "T" ++ (spec.clock_text moment ++ codes "Z"))) }
@@ -40,7 +40,7 @@ fn spelled(alloc: Global, date: Date, moment: u64) -> Result<String, Memory>
     format!(in alloc; "{date}T{clock}Z")
 }
 
-/// The text of a moment, in milliseconds since 1970.
+/// Returns the text of a moment, in milliseconds since 1970.
 pub fn time_text(alloc: Global, moment: u64) -> Result<String, Memory>
     ensures { IfOk result (λ text. spec.IsTime moment (string_bytes text)) }
 {

@@ -1,4 +1,4 @@
-//! Which members were asked, and how often each was silent.
+//! Tracker of the asks that have no reply yet, and of how often each member was silent.
 
 ghost use Rattle.std.specs.Prelude.{◌≡◌, Some, None, OnOk, IfOk};
 ghost use Rattle.lra_model.specs.declared.entry.Deed.{Deed};
@@ -13,23 +13,23 @@ use lra_model::{Instance, Memory, Outcome};
 use std::alloc::Global;
 use std::collections::HashMap;
 
-/// Which members were asked by asks that stand, and how often in a row each was silent.
+/// Ask tracker: the members of the pending asks, and how often in a row each member was silent.
 #[derive(Drop)]
 pub(crate) struct Vigil {
-    /// The member of each ask that stands.
+    /// Member of each pending ask.
     asks: HashMap<u64, u64>,
-    /// Number of silences in a row of each member that was silent.
+    /// Number of silences in a row, of each member that was silent.
     silences: HashMap<u64, u64>,
 }
 
-/// Returns whether a silence is told of.
+/// Returns whether a silence is logged: the first of a member, and each tenth.
 fn is_told(times: u64) -> bool
     ensures { result ≡ spec.is_told times }
 {
     times == 1 || times % 10 == 0
 }
 
-/// The event of a silence, if it is told of. A journal doesn't say what came of the callback.
+/// Returns the event of a silence, if it is logged. A journal doesn't record the callback's outcome.
 fn silence(journal: Instance, member: u64, times: u64) -> Option<Event>
     ensures { result ≡ spec.silence journal member times }
 {
@@ -46,7 +46,7 @@ fn silence(journal: Instance, member: u64, times: u64) -> Option<Event>
 }
 
 impl Vigil {
-    /// Nobody was asked, and nobody was silent.
+    /// Returns a tracker without asks and silences.
     pub(crate) fn new(alloc: Global) -> Vigil
         ensures { sight_of result ≡ spec.blank }
     {
@@ -56,7 +56,7 @@ impl Vigil {
         }
     }
 
-    /// A member is asked.
+    /// Records an ask of a member.
     fn ask(&mut self, ask: u64, member: u64) -> Result<(), Memory>
         ensures { OnOk result (sight_of self.new ≡ record (sight_of self.old)
             { asked = spec.with_at ask (Some member) (sight_of self.old).asked }) }
@@ -65,7 +65,7 @@ impl Vigil {
         Ok(())
     }
 
-    /// A member wasn't silent.
+    /// Resets the silences of a member that replied or reported.
     fn speak(&mut self, member: u64)
         ensures { sight_of self.new ≡ record (sight_of self.old) {
           silent =
@@ -75,7 +75,7 @@ impl Vigil {
         self.silences.remove(&member);
     }
 
-    /// A member was silent once more: how often that is in a row.
+    /// Counts another silence of a member. Returns how many it has in a row.
     fn count(&mut self, member: u64) -> Result<u64, Memory>
         ensures times { IfOk result (λ times. times ≡ one_more ((sight_of self.old).silent member)) }
         ensures sight { IfOk result (λ times. sight_of self.new ≡ record (sight_of self.old)
@@ -89,8 +89,8 @@ impl Vigil {
         Ok(times)
     }
 
-    /// Something came of an ask: the event, where that was another silence, and it is told of. Where memory is refused
-    /// the silence isn't counted.
+    /// Records the outcome of an ask. Returns the event, if it is another silence that is logged. Where memory is
+    /// refused the silence isn't counted.
     fn reply(
         &mut self,
         journal: Instance,
@@ -113,7 +113,7 @@ impl Vigil {
         }
     }
 
-    /// Takes up one more entry's deed: the event that it tells of, if it tells of one.
+    /// Records the deed of one more entry. Returns its event, if it has one.
     pub(crate) fn hear(
         &mut self,
         journal: Instance,

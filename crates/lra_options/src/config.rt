@@ -1,4 +1,4 @@
-//! A file of settings.
+//! File of settings.
 
 use crate::fault::{OptionsFault, one_line, wrong};
 use crate::number::value_in;
@@ -13,7 +13,7 @@ use toml::{Table, Value};
 /// Largest number of bytes of a file of settings.
 const LONGEST: u32 = 65_536;
 
-/// Settings and texts that a file has.
+/// Settings and texts of a file.
 #[derive(Drop)]
 pub(crate) struct Config {
     pub(crate) given: Given,
@@ -21,7 +21,7 @@ pub(crate) struct Config {
 }
 
 impl Config {
-    /// A file that says nothing.
+    /// Returns the contents of a file that gives nothing.
     pub(crate) fn nothing(alloc: Global) -> Config {
         Config {
             given: Given::nothing(),
@@ -30,7 +30,7 @@ impl Config {
     }
 }
 
-/// All that a file has.
+/// Reads all bytes of a file.
 fn read_file<R: Files>(rt: &R, alloc: Global, name: &str) -> Result<Vec<u8>, OptionsFault> {
     let Ok(file) = fs::open(rt, name) else {
         return Err(wrong(format!(in alloc; "cannot read {name}")));
@@ -43,7 +43,7 @@ fn read_file<R: Files>(rt: &R, alloc: Global, name: &str) -> Result<Vec<u8>, Opt
     }
 }
 
-/// The table of a file's bytes.
+/// Parses the table of a file's bytes.
 fn table_of(alloc: Global, name: &str, bytes: &[u8]) -> Result<Table, OptionsFault> {
     match toml::table_from_slice(alloc, bytes) {
         Ok(table) => Ok(table),
@@ -51,14 +51,14 @@ fn table_of(alloc: Global, name: &str, bytes: &[u8]) -> Result<Table, OptionsFau
     }
 }
 
-/// Returns what is wrong with a file that is no table.
+/// Returns the line about a file that can't be parsed.
 fn told(alloc: Global, name: &str, error: &toml::de::Error) -> Result<String, AllocError> {
     let text = format!(in alloc; "{error}")?;
     let line = one_line(alloc, text.as_str())?;
     format!(in alloc; "{name}: {line}")
 }
 
-/// Reads a parameter from a value. A place says whose it is.
+/// Reads a parameter from a value. `place` names the file and its key in a fault.
 fn number_of(
     alloc: Global,
     parameter: Parameter,
@@ -74,7 +74,7 @@ fn number_of(
     }
 }
 
-/// The text that a value is. A place says whose it is.
+/// Reads a text from a value. `place` names the file and its key in a fault.
 fn text_of(alloc: Global, place: &str, value: &Value) -> Result<String, OptionsFault> {
     match value.as_str() {
         Some(text) => Ok(String::from_str(alloc, text)?),
@@ -82,7 +82,7 @@ fn text_of(alloc: Global, place: &str, value: &Value) -> Result<String, OptionsF
     }
 }
 
-/// Notes the texts of the list that a value is. A place says whose it is.
+/// Adds the texts of a value that is a list. `place` names the file and its key in a fault.
 fn note_texts(
     alloc: Global,
     place: &str,
@@ -99,7 +99,7 @@ fn note_texts(
     Ok(())
 }
 
-/// Reads true or false from a value. A place says whose it is.
+/// Reads true or false from a value. `place` names the file and its key in a fault.
 fn truth_of(alloc: Global, place: &str, value: &Value) -> Result<bool, OptionsFault> {
     match value.as_bool() {
         Some(truth) => Ok(truth),
@@ -107,7 +107,7 @@ fn truth_of(alloc: Global, place: &str, value: &Value) -> Result<bool, OptionsFa
     }
 }
 
-/// Notes what a file says under a key that is no parameter's. A place says whose it is.
+/// Adds the value of a key that is no parameter. `place` names the file and its key in a fault.
 fn note_other(
     alloc: Global,
     place: &str,
@@ -129,7 +129,7 @@ fn note_other(
     }
 }
 
-/// Notes what a file says under a key.
+/// Adds the value of a key.
 fn note(
     alloc: Global,
     name: &str,

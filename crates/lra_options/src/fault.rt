@@ -1,4 +1,4 @@
-//! Why nothing is served by some options.
+//! Reasons why options are refused.
 
 ghost use Rattle.std.specs.Prelude.{◌≡◌};
 ghost use Rattle.lra_options.specs.declared.fault.OptionsFault.TheVariants.{Memory};
@@ -35,7 +35,7 @@ impl<T: Drop> From<AllocFailed<T>> for OptionsFault {
     }
 }
 
-/// The lines of a text, up to an empty one, as one line.
+/// Returns the lines of a text, up to an empty line, as one line.
 pub(crate) fn one_line(alloc: Global, text: &str) -> Result<String, AllocError> {
     let mut line = String::new(alloc);
     for part in text.lines() {
@@ -51,7 +51,7 @@ pub(crate) fn one_line(alloc: Global, text: &str) -> Result<String, AllocError> 
     Ok(line)
 }
 
-/// The fault of a text, where there is memory for it.
+/// Returns the fault with that text, or the one of memory where there is no memory for it.
 pub(crate) fn wrong(text: Result<String, AllocError>) -> OptionsFault {
     match text {
         Ok(text) => OptionsFault::Wrong(text),

@@ -1,4 +1,4 @@
-//! The words after `lra serve` that are options, and the file that they may name: what is to be served, and by which
+//! The words after `lra serve`, and the file of settings that they may name. They give what is to be served, and the
 //! settings.
 #![tactic(auto)]
 

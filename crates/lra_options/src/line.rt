@@ -1,4 +1,4 @@
-//! The words of the command line.
+//! Words of the command line after `serve`.
 
 use crate::fault::{OptionsFault, one_line, wrong};
 use crate::number::{number_in, out_of_range, value_in};
@@ -8,28 +8,28 @@ use clap::{Arg, ArgAction, ArgMatches, Command, Error};
 use lra_settings::{Given, Parameter};
 use std::alloc::{AllocError, Global};
 
-/// Largest number of threads of a kind that a service may have.
+/// Largest number of threads of a kind.
 const MOST_WORKERS: u64 = 16;
 
-/// Meaning of the words.
+/// Values of the words.
 #[derive(Drop)]
 pub(crate) struct Line<'a> {
     pub(crate) address: &'a str,
     pub(crate) file: &'a str,
     pub(crate) workers: u32,
-    /// The file that has further settings, if one is named.
+    /// File with further settings, if one is named.
     pub(crate) config: Option<&'a str>,
     pub(crate) said: Said,
-    /// A folder takes no more starts, and is served until what it has is done.
+    /// Mark that a folder accepts no more starts, and is served until all its work is done.
     pub(crate) drains: bool,
-    /// A folder was restored from a copy.
+    /// Mark that a folder was restored from a copy.
     pub(crate) is_restored: bool,
-    /// It is only told what would be served.
+    /// Mark that the program only reports what it would serve.
     pub(crate) is_check: bool,
     pub(crate) given: Given,
 }
 
-/// Returns what the help says of a parameter.
+/// Returns the help of a parameter.
 fn help_of(parameter: Parameter) -> &'static str {
     match parameter {
         Parameter::Connections => "Connections at once [10000]",
@@ -52,7 +52,7 @@ fn help_of(parameter: Parameter) -> &'static str {
     }
 }
 
-/// Returns what a parameter is counted in.
+/// Returns the unit of a parameter's value.
 fn unit_of(parameter: Parameter) -> &'static str {
     match parameter {
         Parameter::Connections
@@ -65,7 +65,7 @@ fn unit_of(parameter: Parameter) -> &'static str {
     }
 }
 
-/// An option with a value.
+/// Returns an option with a value.
 fn value_arg<'a>(alloc: Global, name: &'a str, unit: &'a str, help: &'a str) -> Arg<'a> {
     Arg::new(alloc, name)
         .long(name)
@@ -74,7 +74,7 @@ fn value_arg<'a>(alloc: Global, name: &'a str, unit: &'a str, help: &'a str) -> 
         .help(help)
 }
 
-/// With an option with a value.
+/// Adds an option with a value.
 fn with_value<'a>(
     alloc: Global,
     command: Command<'a>,
@@ -85,7 +85,7 @@ fn with_value<'a>(
     command.arg(value_arg(alloc, name, unit, help))
 }
 
-/// An option that is said or isn't.
+/// Returns an option without a value.
 fn flag_arg<'a>(alloc: Global, name: &'a str, help: &'a str) -> Arg<'a> {
     Arg::new(alloc, name)
         .long(name)
@@ -93,7 +93,7 @@ fn flag_arg<'a>(alloc: Global, name: &'a str, help: &'a str) -> Arg<'a> {
         .help(help)
 }
 
-/// A word that has to be there.
+/// Returns a required word.
 fn word_arg<'a>(alloc: Global, name: &'a str, help: &'a str) -> Arg<'a> {
     Arg::new(alloc, name)
         .required(true)
@@ -101,7 +101,7 @@ fn word_arg<'a>(alloc: Global, name: &'a str, help: &'a str) -> Arg<'a> {
         .help(help)
 }
 
-/// With the three words that have to be there.
+/// Adds the three required words.
 fn with_words(alloc: Global, command: Command<'_>) -> Result<Command<'_>, AllocError> {
     let address = word_arg(
         alloc,
@@ -117,7 +117,7 @@ fn with_words(alloc: Global, command: Command<'_>) -> Result<Command<'_>, AllocE
     command.arg(address)?.arg(file)?.arg(workers)
 }
 
-/// With an option that may be said any number of times.
+/// Adds an option that may be given any number of times.
 fn with_list<'a>(
     alloc: Global,
     command: Command<'a>,
@@ -128,7 +128,7 @@ fn with_list<'a>(
     command.arg(value_arg(alloc, name, unit, help).action(ArgAction::Append))
 }
 
-/// With the options whose values are texts.
+/// Adds the options whose values are texts.
 fn with_texts<'a>(alloc: Global, command: Command<'a>) -> Result<Command<'a>, AllocError> {
     let mut command = command;
     for word in &Word::ALL {
@@ -142,7 +142,7 @@ fn with_texts<'a>(alloc: Global, command: Command<'a>) -> Result<Command<'a>, Al
     Ok(command)
 }
 
-/// With the options that are no parameters.
+/// Adds the options that are no parameters and no texts.
 fn with_flags(alloc: Global, command: Command<'_>) -> Result<Command<'_>, AllocError> {
     let config = value_arg(
         alloc,
@@ -174,7 +174,7 @@ fn with_flags(alloc: Global, command: Command<'_>) -> Result<Command<'_>, AllocE
         .arg(check)
 }
 
-/// Makes the command that the words are read by.
+/// Makes the command that parses the words.
 fn command_of<'a>(alloc: Global) -> Result<Command<'a>, AllocError> {
     let mut command = Command::new(alloc, "lra serve").no_binary_name(true);
     for parameter in &Parameter::ALL {
@@ -184,7 +184,7 @@ fn command_of<'a>(alloc: Global) -> Result<Command<'a>, AllocError> {
     with_words(alloc, with_flags(alloc, with_texts(alloc, command)?)?)
 }
 
-/// Why the words can't be read.
+/// Returns the fault of a parser's error.
 fn fault_of(alloc: Global, error: &Error) -> OptionsFault {
     let Ok(text) = format!(in alloc; "{error}") else {
         return OptionsFault::Memory;
@@ -199,7 +199,7 @@ fn fault_of(alloc: Global, error: &Error) -> OptionsFault {
     }
 }
 
-/// Returns what is said of the settings.
+/// Returns the values that the words give to the settings.
 fn given_in(alloc: Global, matches: &ArgMatches<'_>) -> Result<Given, OptionsFault> {
     let mut given = Given::nothing();
     for parameter in &Parameter::ALL {
@@ -215,13 +215,13 @@ fn given_in(alloc: Global, matches: &ArgMatches<'_>) -> Result<Given, OptionsFau
     Ok(given)
 }
 
-/// The option of a parameter, as it is written.
+/// Returns the option of a parameter as it is typed.
 fn option_of(alloc: Global, parameter: Parameter) -> Result<String, AllocError> {
     let name = parameter.name();
     format!(in alloc; "--{name}")
 }
 
-/// Reads how many threads of a kind a text spells.
+/// Reads the number of threads of a kind.
 fn workers_in(alloc: Global, text: &str) -> Result<u32, OptionsFault> {
     match number_in(text) {
         Some(number) if 0 < number && number <= MOST_WORKERS => Ok(number as u32),
@@ -229,16 +229,16 @@ fn workers_in(alloc: Global, text: &str) -> Result<u32, OptionsFault> {
     }
 }
 
-/// Returns what is said by a required word.
+/// Returns the value of a required word.
 fn word_in<'a>(matches: &ArgMatches<'a>, name: &str) -> &'a str {
     match matches.get_str(name) {
         Some(text) => text,
-        // The words were refused then.
+        // The parser refuses the words without it.
         None => "",
     }
 }
 
-/// Notes what is said by an option that may be said any number of times.
+/// Adds the values of an option that may be given any number of times.
 fn note_texts(
     alloc: Global,
     matches: &ArgMatches<'_>,
@@ -253,7 +253,7 @@ fn note_texts(
     Ok(())
 }
 
-/// Returns what is said by the options whose values are texts.
+/// Returns the values of the options that are texts.
 fn said_in(alloc: Global, matches: &ArgMatches<'_>) -> Result<Said, AllocError> {
     let mut said = Said::nothing(alloc);
     for word in &Word::ALL {
@@ -266,7 +266,7 @@ fn said_in(alloc: Global, matches: &ArgMatches<'_>) -> Result<Said, AllocError> 
     Ok(said)
 }
 
-/// Returns what the matches say.
+/// Returns the values in the parser's matches.
 fn line_of<'a>(alloc: Global, matches: &ArgMatches<'a>) -> Result<Line<'a>, OptionsFault> {
     let given = given_in(alloc, matches)?;
     let workers = workers_in(alloc, word_in(matches, "WORKERS"))?;
@@ -283,7 +283,7 @@ fn line_of<'a>(alloc: Global, matches: &ArgMatches<'a>) -> Result<Line<'a>, Opti
     })
 }
 
-/// Reads what the words after the verb say.
+/// Reads the words after `serve`.
 pub(crate) fn read_line<'a>(alloc: Global, words: &'a [String]) -> Result<Line<'a>, OptionsFault> {
     let command = command_of(alloc)?;
     match command.try_get_matches_from(words) {

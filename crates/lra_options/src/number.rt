@@ -4,7 +4,7 @@ use crate::fault::{OptionsFault, wrong};
 use lra_settings::Parameter;
 use std::alloc::Global;
 
-/// The number that some digits spell.
+/// Reads a number in decimal digits. Returns nothing for other texts, and for numbers of more than 64 bits.
 pub(crate) fn number_in(text: &str) -> Option<u64> {
     if !text.bytes().all(|byte| byte.is_ascii_digit()) {
         return None;
@@ -12,7 +12,7 @@ pub(crate) fn number_in(text: &str) -> Option<u64> {
     text.parse::<u64>().ok()
 }
 
-/// The fault of a text that is no number in its range. A place says whose it is.
+/// Returns the fault of a text that is no number in its range. `place` names the option, or the file and its key.
 pub(crate) fn out_of_range(
     alloc: Global,
     place: &str,
@@ -23,7 +23,7 @@ pub(crate) fn out_of_range(
     wrong(format!(in alloc; "{place}: {text} is not from {least} to {most}"))
 }
 
-/// Reads a parameter from a text. A place says whose it is.
+/// Reads a parameter from a text. `place` names the option, or the file and its key, in a fault.
 pub(crate) fn value_in(
     alloc: Global,
     parameter: Parameter,

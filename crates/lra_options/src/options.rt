@@ -1,4 +1,4 @@
-//! Service to be run, by the words of the command line and the file that they may name.
+//! Service to be run, from the words of the command line and the file of settings that they may name.
 
 ghost use Rattle.std.specs.Prelude.{◌≡◌, true, IfOk};
 ghost use Rattle.lra_settings.specs.Settings.{are_fit};
@@ -20,22 +20,22 @@ pub struct Options<'a> {
     /// Number of threads of a kind: from 1 to 16.
     pub workers: u32,
     pub settings: Settings,
-    /// Base that identifiers begin with, if that isn't `http://`, the address and `/`.
+    /// Base that identifiers begin with, if it isn't `http://`, the address and `/`.
     pub base: Option<Base>,
-    /// Older bases that identifiers may begin with as well where clients send them; the first of them that begins one
+    /// Older bases that identifiers in requests may begin with as well. The first that an identifier begins with
     /// counts.
     pub also_bases: Vec<Base>,
     /// Values of the options that are texts.
     pub said: Said,
-    /// A folder takes no more starts, and is served until what it has is done.
+    /// Mark that a folder accepts no more starts, and is served until all its work is done.
     pub drains: bool,
-    /// A folder was restored from a copy: nothing is begun any more in the journals that it has.
+    /// Mark that a folder was restored from a copy. The journals that it has accept no new work.
     pub is_restored: bool,
-    /// It is only told what would be served.
+    /// Mark that the program only reports what it would serve.
     pub is_check: bool,
 }
 
-/// The settings by what is said on the line and in the file, where a service may be run by them.
+/// Returns the settings from the command line and the file, if a service can run with them.
 fn fit_settings(alloc: Global, line: &Given, file: &Given) -> Result<Settings, OptionsFault>
     ensures { IfOk result (λ settings. are_fit settings ≡ true) }
 {
@@ -60,7 +60,7 @@ fn config_of<R: Files>(
     }
 }
 
-/// The base that a text is. A place says whose it is.
+/// Reads a base from a text. `place` names the option or key in a fault.
 fn base_in(alloc: Global, place: &str, text: &str) -> Result<Base, OptionsFault> {
     match Base::read(alloc, text) {
         Ok(Some(base)) => Ok(base),
@@ -69,7 +69,7 @@ fn base_in(alloc: Global, place: &str, text: &str) -> Result<Base, OptionsFault>
     }
 }
 
-/// Whose a text is that is said of an option: the line's or the file's.
+/// Returns the place of an option for a fault: the option on the command line, or the file and its key.
 fn place_of(alloc: Global, word: Word, config: Option<&str>) -> Result<String, AllocError> {
     let name = word.name();
     match config {
@@ -78,7 +78,7 @@ fn place_of(alloc: Global, word: Word, config: Option<&str>) -> Result<String, A
     }
 }
 
-/// The bases that are said of an option, on the line or in that file.
+/// Reads the bases that an option has on the command line, or in that file.
 fn bases_in(
     alloc: Global,
     said: &Said,
@@ -93,7 +93,7 @@ fn bases_in(
     Ok(bases)
 }
 
-/// The bases that the line names, or else the file.
+/// Reads the bases that an option has on the command line, or else in the file.
 fn bases_of(
     alloc: Global,
     line: &Line<'_>,
@@ -107,7 +107,7 @@ fn bases_of(
     bases_in(alloc, file, word, line.config)
 }
 
-/// Returns what a line says is to be served.
+/// Returns the service and its settings from a command line and the file that it names.
 fn options_of<'a, R: Files>(
     rt: &R,
     alloc: Global,
@@ -148,8 +148,8 @@ fn options_of<'a, R: Files>(
     })
 }
 
-/// Reads what is to be served from these words, which follow `serve`, and from the settings of the file that they may
-/// name. A service may be run by them. Each fault names the option, or the key of the file, and what is wrong with it.
+/// Reads what is to be served from the words after `serve`, and from the file of settings that they may name. A service
+/// can run with the settings. A fault names the option, or the key of the file, and says what is wrong with it.
 pub fn read_options<'a, R: AllocGlobal + Files>(
     rt: &R,
     words: &'a [String],

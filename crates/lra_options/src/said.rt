@@ -1,4 +1,4 @@
-//! Options whose values are texts, and what is said of them.
+//! Options whose values are texts, and their values.
 
 use std::alloc::{AllocError, Global};
 
@@ -7,30 +7,30 @@ use std::alloc::{AllocError, Global};
 pub enum Word {
     /// Base that identifiers begin with.
     Base,
-    /// Older base that they may begin with as well.
+    /// Older base that identifiers may begin with as well.
     AlsoBase,
-    /// The file with the last part of what they begin with, which is a secret.
+    /// The file with the secret that identifiers begin with, after the base.
     Token,
-    /// The address of the operators' port.
+    /// The address of the operators' server.
     Operators,
-    /// The file with the key that the port asks for.
+    /// The file with the key that the operators' server requires.
     OperatorsKey,
-    /// The file with the keys that requests have to give.
+    /// The file with the keys that API requests have to give.
     Key,
-    /// By which names the service is called.
+    /// A name by which clients call the service.
     Origin,
-    /// Where members may be.
+    /// A rule for the hosts and ports where members may be.
     Members,
-    /// From which level on events are logged.
+    /// The level from which on events are logged.
     Log,
-    /// Format in which they are written.
+    /// Format in which events are logged.
     LogFormat,
-    /// The file that says whose a folder is.
+    /// The file that names the owner of a folder.
     Fence,
 }
 
 impl Word {
-    /// All of them, in the order of the help.
+    /// All these options, in the order of the help.
     pub const ALL: [Word; 11] = [
         Word::Base,
         Word::AlsoBase,
@@ -45,7 +45,7 @@ impl Word {
         Word::Fence,
     ];
 
-    /// Its name, on the line and in a file.
+    /// Returns the option's name on the command line and in a file.
     pub fn name(self) -> &'static str {
         match self {
             Word::Base => "base",
@@ -62,12 +62,12 @@ impl Word {
         }
     }
 
-    /// Returns whether it may be said any number of times: its key in a file has a list then.
+    /// Returns whether the option may be given any number of times. Its value in a file is a list then.
     pub fn is_list(self) -> bool {
         matches!(self, Word::AlsoBase | Word::Origin | Word::Members)
     }
 
-    /// Returns what stands for its value in the help.
+    /// Returns the unit that the help shows for the value.
     pub(crate) fn unit(self) -> &'static str {
         match self {
             Word::Base | Word::AlsoBase => "URL",
@@ -80,7 +80,7 @@ impl Word {
         }
     }
 
-    /// Returns what the help says of it.
+    /// Returns the help of the option.
     pub(crate) fn help(self) -> &'static str {
         match self {
             Word::Base => "What identifiers begin with [http://ADDRESS/]",
@@ -110,45 +110,45 @@ impl Word {
         }
     }
 
-    /// The one of a name.
+    /// Returns the option of a name, if there is one.
     pub(crate) fn from_name(name: &str) -> Option<Word> {
         Word::ALL.iter().copied().find(|word| word.name() == name)
     }
 }
 
-/// A text that is said of an option.
+/// A value of an option.
 #[derive(Drop)]
 struct Saying {
     word: Word,
     text: String,
 }
 
-/// Values of the options that are texts, in one place.
+/// Values of the options that are texts, from one source.
 #[derive(Drop)]
 pub struct Said {
     sayings: Vec<Saying>,
 }
 
 impl Said {
-    /// Nothing is said.
+    /// Returns no values.
     pub fn nothing(alloc: Global) -> Said {
         Said {
             sayings: Vec::new(alloc),
         }
     }
 
-    /// One more text is said of an option.
+    /// Adds a value of an option.
     pub(crate) fn add(&mut self, word: Word, text: String) -> Result<(), AllocError> {
         self.sayings.push(Saying { word, text })?;
         Ok(())
     }
 
-    /// Returns whether anything is said of an option.
+    /// Returns whether an option has a value.
     fn has(&self, word: Word) -> bool {
         self.sayings.iter().any(|saying| saying.word == word)
     }
 
-    /// The first text that is said of an option.
+    /// Returns the first value of an option.
     pub fn text(&self, word: Word) -> Option<&str> {
         for saying in &self.sayings {
             if saying.word == word {
@@ -158,7 +158,7 @@ impl Said {
         None
     }
 
-    /// All texts that are said of an option, in order.
+    /// Returns all values of an option, in order.
     pub fn texts(&self, alloc: Global, word: Word) -> Result<Vec<&str>, AllocError> {
         let mut texts = Vec::new(alloc);
         for saying in &self.sayings {
@@ -169,7 +169,7 @@ impl Said {
         Ok(texts)
     }
 
-    /// Adds what another says of each option of which nothing is said here.
+    /// Adds another source's values of each option that has none here.
     fn add_others(&mut self, other: Said) -> Result<(), AllocError> {
         let mut missing = Said::nothing(*self.sayings.allocator());
         for saying in other.sayings {
@@ -183,7 +183,7 @@ impl Said {
         Ok(())
     }
 
-    /// Returns what is said on a line, and of the options of which nothing is said there what is said in a file.
+    /// Returns the values of the command line, and the file's values of the options that the line doesn't give.
     pub(crate) fn or(self, file: Said) -> Result<Said, AllocError> {
         let mut said = self;
         match said.add_others(file) {

@@ -1,4 +1,4 @@
-//! A report of what would be served of a folder, with nothing served.
+//! Report of what would be served of a folder, without serving it.
 
 use crate::running::FolderServed;
 use lra_ids::Base;
@@ -12,7 +12,7 @@ use std::io::Write;
 use std::rt::Files;
 use std::time::Clock;
 
-/// Writes what would be served, of journals that could be.
+/// Writes the report on sound journals.
 fn tell<W: Write>(
     alloc: Global,
     address: &str,
@@ -39,9 +39,9 @@ fn tell<W: Write>(
 }
 
 /// Writes what would be served of a folder at an address, a line each: the address, the base and the older ones, the
-/// folder's name, the number of connection workers, how many journals there are, how many entries they have, and all
-/// settings. The folder and its journals are found, locked and audited for that, as before they are served, and nothing
-/// is created, bound or written.
+/// folder's name, the number of connection workers, the numbers of journals and of their entries, and all settings. The
+/// folder and its journals are found, locked and audited, as before they are served. Nothing is created, bound or
+/// written.
 pub fn check_folder<
     R: Files<File = File> + AllocGlobal + Clone + Drop + Clock,
     V: Herald,

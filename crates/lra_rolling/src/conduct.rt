@@ -1,4 +1,4 @@
-//! The manner in which a folder is served, beside its settings.
+//! Manner in which a folder is served, beside its settings.
 
 use lra_branch::Clerkship;
 use lra_journal_folder::{Contents, Folder, RollingFault};
@@ -13,18 +13,19 @@ use std::sync::Arc;
 /// Manner in which a folder is served from one start on, beside its settings.
 #[derive(Clone, Copy)]
 pub struct Conduct<'a> {
-    /// No more starts are taken that name no action of it, and the service ends once nothing is left to be done.
+    /// Mark that starts that name no action of the folder are refused. The service ends once nothing is left to be
+    /// done.
     pub drains: bool,
-    /// It was restored from a copy, which may lack what was answered since: in the journals that it has nothing is
-    /// begun any more.
+    /// Mark that the folder was restored from a copy, which may lack entries that were answered since. The journals
+    /// that it has accept no new work.
     pub is_restored: bool,
-    /// Fence that says whose the folder is: once it has fallen, nothing is written or synced.
+    /// Fence that names the folder's owner. Once it has fallen, nothing is written or synced.
     pub fence: Option<&'a Arc<Fence>>,
 }
 
 impl Conduct<'_> {
-    /// Returns the instance up to which nothing is begun in journals any more, if the folder was restored. Notes it
-    /// where it is said now that the folder was.
+    /// Returns the instance up to which journals accept no new work, if the folder was restored. If the options say now
+    /// that it was, writes that instance to the folder first.
     pub(crate) fn restored<R: Files<File = File> + AllocGlobal + Clone + Drop>(
         &self,
         folder: &Folder<'_, R>,
@@ -43,8 +44,8 @@ impl Conduct<'_> {
     }
 }
 
-/// The least number of an instance in whose journal anything is begun, where nothing is up to the last one, if there is
-/// one.
+/// Returns the least number of an instance whose journal accepts new work. Journals up to the last one, if there is
+/// one, accept none.
 pub(crate) fn first_open(last: Option<Instance>) -> u64 {
     match last {
         Some(last) => last.number().saturating_add(1),
@@ -52,8 +53,7 @@ pub(crate) fn first_open(last: Option<Instance>) -> u64 {
     }
 }
 
-/// Closes journals before the first one to new work. Returns whether there is a newest one, which comes last, that
-/// takes what is begun.
+/// Closes journals before the first one to new work. Returns whether the newest journal, which comes last, accepts it.
 pub(crate) fn retire<B: Clerkship + Drop>(watches: &[Watch<B>], first: u64) -> bool {
     let mut takes = false;
     for watch in watches {

@@ -1,4 +1,4 @@
-//! Thread that wakes the callback workers.
+//! Wake relay of the callback workers.
 
 use lra_roster::Roster;
 use lra_service::Ending;
@@ -9,22 +9,22 @@ use std::sync::{Arc, Mutex, Wait};
 use std::thread;
 use std::time::{Clock, Duration};
 
-/// Number of events that are reported at once.
+/// Largest number of events that a poll reports.
 const MOST_EVENTS: usize = 8;
 
-/// Largest number of milliseconds that pass before it looks again.
+/// Largest number of milliseconds between two checks.
 const LOOK: u64 = 1_000;
 
-/// Thread that wakes the callback workers, once their journals have grown: connection workers and resolvers know no
-/// more than that some may have.
+/// Wake relay: a thread that wakes the callback workers whose journals have grown. Connection workers and resolvers
+/// only know that some journal may have grown, and wake the relay.
 #[derive(Drop)]
 pub(crate) struct Crier {
     poll: Mutex<Option<Poll>>,
-    /// Bells that wake it.
+    /// Wakers of the relay.
     pub(crate) bells: Vec<Waker>,
 }
 
-/// Makes room for events, once there is memory, or nothing where no one answers any more by then.
+/// Makes room for events. Retries until there is memory, or returns nothing once no connection worker is left.
 fn find_room<R: Wait + Clock>(rt: &R, alloc: Global, ending: &Arc<Ending>) -> Option<Events> {
     for _ in rt.forever() {
         if let Ok(events) = Events::with_capacity(alloc, MOST_EVENTS) {
@@ -39,7 +39,7 @@ fn find_room<R: Wait + Clock>(rt: &R, alloc: Global, ending: &Arc<Ending>) -> Op
 }
 
 impl Crier {
-    /// One, if what it waits with can be had.
+    /// Returns a wake relay, if its poll and its waker can be made.
     pub(crate) fn new<R: Net>(rt: &R, alloc: Global) -> Option<Crier> {
         let (poll, bell) = lra_callbacks::bell(rt).ok()?;
         let mut bells = Vec::new(alloc);
@@ -50,7 +50,8 @@ impl Crier {
         })
     }
 
-    /// Wakes the callback workers, as it is woken, until no connection worker is left.
+    /// Wakes the callback workers of journals with news, until no connection worker is left. Does so whenever the relay
+    /// is woken, and once a second at least.
     pub(crate) fn run<R: Wait + Clock, B: Drop>(
         &self,
         rt: &R,

@@ -1,5 +1,5 @@
-//! The coordinators of a folder as a running service: its journals, of which the newest takes what is begun, the next
-//! one that takes its place, and those that are put away.
+//! The coordinators of a folder as a running service. The newest journal accepts new work until the next one replaces
+//! it. Journals that are done are archived.
 #![tactic(auto)]
 
 mod checking;

@@ -19,7 +19,7 @@ use std::alloc::Global;
 use std::sync::{Arc, Wait};
 use std::time::Clock;
 
-/// Port of the operators, if there is one, and what they are told beside the histories.
+/// Operators' server, if there is one, and what it reports beside the histories.
 #[derive(Drop)]
 pub(crate) struct Tower<'a> {
     pub(crate) post: Option<&'a Watchpost>,
@@ -31,7 +31,7 @@ pub(crate) struct Tower<'a> {
 }
 
 impl Tower<'_> {
-    /// Returns the system's figures of the process, where there is a port for operators.
+    /// Returns the process statistics, if there is an operators' server.
     fn vitals(&self) -> Vitals {
         match self.post {
             Some(post) => post.vitals(),
@@ -40,40 +40,40 @@ impl Tower<'_> {
     }
 }
 
-/// A journal, with a clerk of its own.
+/// Journal with a clerk of the operators' thread.
 #[derive(Drop)]
 struct Desk<B> {
     journal: Arc<Journal<B>>,
     branch: B,
 }
 
-/// View of the operators' thread, with a clerk of each journal of the roster.
+/// Operators' view, with a clerk of each journal of the registry.
 #[derive(Drop)]
 pub(crate) struct Lookout<'b, 's, 'a, R: Wait, H, B> {
     shift: &'b Shift<'s, 'a, R, H, B>,
-    /// The newest last.
+    /// Journals with their clerks, the newest last.
     desks: Vec<Desk<B>>,
-    /// The roster's version that they are known to be of.
+    /// Version of the registry that the view follows.
     seen: u64,
-    /// It couldn't follow the last change of the roster that it saw.
+    /// Mark that the view couldn't follow the last change of the registry.
     is_behind: bool,
     clock: SystemClock<'a, R>,
     given: Given,
 }
 
-/// Returns whether a journal of that instance is among them.
+/// Returns whether a journal of that instance is among these.
 fn is_among<B: Drop>(journals: &[Arc<Journal<B>>], instance: Instance) -> bool {
     journals.iter().any(|journal| journal.instance == instance)
 }
 
-/// The place of a journal's desk, if it is there.
+/// Returns the position of a journal's desk, if there is one.
 fn place_of<B: Drop>(desks: &[Desk<B>], instance: Instance) -> Option<usize> {
     desks
         .iter()
         .position(|desk| desk.journal.instance == instance)
 }
 
-/// Adds a clerk of a journal, at a moment. Returns whether it did.
+/// Adds a clerk of a journal, enrolled at a moment. Returns whether it did.
 fn join<R: Wait, B: Clerkship + Drop>(
     rt: &R,
     desks: &mut Vec<Desk<B>>,
@@ -95,7 +95,7 @@ fn join<R: Wait, B: Clerkship + Drop>(
         .is_ok()
 }
 
-/// Adds a clerk of each journal that has none, at a moment. Returns whether all have one.
+/// Adds a clerk of each journal that has none, enrolled at a moment. Returns whether all have one.
 fn join_all<R: Wait, B: Clerkship + Drop>(
     rt: &R,
     desks: &mut Vec<Desk<B>>,
@@ -138,7 +138,7 @@ impl<'s, 'a: 's, R: Wait + Clock, H, B: Clerkship + Drop> Lookout<'_, 's, 'a, R,
         all
     }
 
-    /// Returns whether it is known of any journal's coordinator that it has stopped.
+    /// Returns whether the coordinator of any journal is known to have stopped.
     fn has_stopped(&self) -> bool {
         let tallies = &self.shift.tower.tallies;
         self.desks
@@ -154,7 +154,7 @@ impl<'s, 'a: 's, R: Wait + Clock, H, B: Clerkship + Drop> Lookout<'_, 's, 'a, R,
         }
     }
 
-    /// Gives an order to a journal. Nothing is told of it before it is on disk.
+    /// Gives an order to a journal. Returns its reply only once all is durable.
     fn give_at(
         &mut self,
         place: usize,
@@ -175,7 +175,7 @@ impl<'s, 'a: 's, R: Wait + Clock, H, B: Clerkship + Drop> Lookout<'_, 's, 'a, R,
         }
     }
 
-    /// Returns what a journal's coordinator answers to a query.
+    /// Returns the reply of a journal's coordinator to a query.
     fn query_at(&mut self, place: usize, query: Query) -> Result<Known, CounterFault>
         ensures { self.new.given ≡ self.old.given }
     {
@@ -188,7 +188,8 @@ impl<'s, 'a: 's, R: Wait + Clock, H, B: Clerkship + Drop> Lookout<'_, 's, 'a, R,
         }
     }
 
-    /// Marks a member as one that isn't told any more that its action has ended, once that is noted on disk.
+    /// Marks a member as given up: it isn't notified any more that its action has ended. Fails unless the notes have
+    /// that durably.
     fn give_up_at(&self, journal: &Journal<B>, member: u64) -> Result<(), Refusal> {
         let rt = self.shift.rt;
         if journal.outcomes.give_up(rt, member).is_err() {
@@ -207,8 +208,8 @@ impl<'s, 'a: 's, R: Wait + Clock, H, B: Clerkship + Drop> Lookout<'_, 's, 'a, R,
         }
     }
 
-    /// Returns the refusal of what names an instance that has no desk: where there may be a journal of it by now, or
-    /// still, it isn't said that there is none.
+    /// Returns the refusal for an instance that has no desk. If a journal of it may exist by now, or still, the refusal
+    /// doesn't say that there is none.
     fn lacking(&self, instance: Instance) -> CounterFault {
         CounterFault::Refused(if self.shift.roster.lacks(instance, self.seen) {
             Refusal::Stopped

@@ -1,4 +1,4 @@
-//! The notes of members that operators have given up.
+//! Notes of the members that operators have given up.
 
 use lra_journal_folder::{GivenUp, given_up_line};
 use std::alloc::Global;
@@ -6,27 +6,27 @@ use std::fs::File;
 use std::io::Write;
 use std::sync::{Mutex, Wait};
 
-/// The file of a folder in which members are noted that operators have given up.
+/// The file of a folder with the members that operators have given up.
 #[derive(Drop)]
 pub(crate) struct Notes {
     file: Mutex<Option<File>>,
 }
 
-/// Adds a line to a file, and waits until that is on disk. The line feed before it ends what an earlier write left.
+/// Appends a line to a file and syncs it. The line feed before it ends what an interrupted write left.
 fn add_line(file: &mut File, line: &str) -> bool {
     let is_written = file.write_all(b"\n").is_ok() && file.write_all(line.as_bytes()).is_ok();
     is_written && file.sync_data().is_ok()
 }
 
 impl Notes {
-    /// The notes of a file, if there is one.
+    /// Returns the notes in a file, if there is one.
     pub(crate) fn new(file: Option<File>) -> Notes {
         Notes {
             file: Mutex::new(file),
         }
     }
 
-    /// Notes a member, and returns whether that is on disk.
+    /// Adds a member. Returns whether that is durable.
     pub(crate) fn add<R: Wait>(&self, rt: &R, alloc: Global, given: GivenUp) -> bool {
         let Ok(line) = given_up_line(alloc, given) else {
             return false;

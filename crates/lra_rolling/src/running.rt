@@ -43,19 +43,19 @@ use std::sync::{Arc, Wait};
 use std::thread::Threads;
 use std::time::Clock;
 
-/// Most bytes that a journal may have.
+/// Largest number of bytes of a journal.
 const MOST_BYTES: u64 = 1 << 30;
 
 /// End of a service over a folder, without a fault.
 #[derive(Debug, Drop)]
 pub enum FolderServed {
-    /// The journal of that path isn't sound: that is written, and this is the program's status.
+    /// The journal of that path isn't sound. The report is written, and this is the program's status.
     Unsound { status: u8, path: String },
-    /// Gently: what was in flight is recorded or given up, and all is synced.
+    /// The service ended gently: work in flight is recorded or given up, and all is synced.
     Ended,
 }
 
-/// Returns how much a journal may have of each.
+/// Returns the limits of a journal's counts.
 fn limit_of(settings: &Settings) -> Counts {
     let limits = limits_of(settings);
     Counts {
@@ -66,7 +66,7 @@ fn limit_of(settings: &Settings) -> Counts {
     }
 }
 
-/// Returns how much a journal has of each until the next one takes its place.
+/// Returns the counts of a journal at which the next one replaces it.
 fn most_of(settings: &Settings, limit: &Counts) -> Counts {
     Counts {
         actions: settings.roll_after.min(limit.actions / 2),
@@ -83,18 +83,18 @@ struct Service<'a, R, V, H> {
     alloc: Global,
     address: &'a str,
     site: &'a Site,
-    /// Terms by which requests are taken.
+    /// Access policy of requests.
     terms: Terms<'a>,
     folder: &'a Folder<'a, R>,
     workers: u32,
     settings: Settings,
-    /// Listener that is told how far journals have been read.
+    /// Notifier of how far journals have been read.
     watcher: &'a V,
     herald: &'a H,
-    /// Port of the operators, and what they are told.
+    /// Operators' server, and what it reports.
     tower: &'a Tower<'a>,
     conduct: Conduct<'a>,
-    /// The members that operators have given up.
+    /// Members that operators have given up.
     given_up: &'a [GivenUp],
 }
 
@@ -110,7 +110,7 @@ fn arrivals_of<R: Net>(rt: &R, alloc: Global, workers: u32) -> Result<Vec<Arriva
     Ok(all)
 }
 
-/// The line that tells that identifiers begin otherwise than they did, and whether those of before are still read.
+/// Returns the line that reports a new base of identifiers, and whether those of the old base are still read.
 fn base_line(alloc: Global, before: &str, base: &str, is_read: bool) -> Result<String, AllocError> {
     let end = if is_read {
         ""
@@ -120,7 +120,7 @@ fn base_line(alloc: Global, before: &str, base: &str, is_read: bool) -> Result<S
     format!(in alloc; "lra: identifiers began with {before}, and begin with {base} now{end}\n")
 }
 
-/// The same, where what they begin with is a secret.
+/// Returns that line without the bases, where the new base has a secret.
 fn secret_line(alloc: Global, is_read: bool) -> Result<String, AllocError> {
     let end = if is_read {
         ""
@@ -130,7 +130,7 @@ fn secret_line(alloc: Global, is_read: bool) -> Result<String, AllocError> {
     format!(in alloc; "lra: identifiers begin otherwise than they did{end}\n")
 }
 
-/// Ends what members of journals are asked that were given up.
+/// Marks the members that operators have given up in the outcomes of their journals.
 fn give_up_all<R: Wait, B: Drop>(
     rt: &R,
     watches: &[Watch<B>],
@@ -146,7 +146,7 @@ fn give_up_all<R: Wait, B: Drop>(
     Ok(())
 }
 
-/// The later of the moments up to which journals go.
+/// Returns the latest of the last moments of journals.
 fn latest(sounds: &[Sound]) -> u64 {
     let mut latest = 0;
     for sound in sounds {
@@ -185,7 +185,7 @@ impl<'a, R, V, H> Service<'a, R, V, H> {
 }
 
 impl<R: Wait, V, H> Service<'_, R, V, H> {
-    /// The roster of journals.
+    /// Returns the registry of the journals.
     fn roster<B: Drop>(&self, watches: &[Watch<B>]) -> Result<Roster<B>, RollingFault> {
         let roster = Roster::new(self.alloc);
         if self.conduct.drains {
@@ -199,7 +199,7 @@ impl<R: Wait, V, H> Service<'_, R, V, H> {
 }
 
 impl<R, V, H: Herald> Service<'_, R, V, H> {
-    /// Tells that identifiers begin otherwise than they did, if what they began with is a base.
+    /// Reports that the base of identifiers has changed, if the former one is a base.
     fn tell_base(&self, before: &str) -> Result<(), AllocError> {
         let Some(before) = Base::read(self.alloc, before)? else {
             return Ok(());
@@ -219,7 +219,7 @@ impl<R, V, H: Herald> Service<'_, R, V, H> {
         Ok(())
     }
 
-    /// Tells what is left alone in the folder.
+    /// Reports the names in the folder that the service leaves alone.
     fn tell_others(&self, contents: &Contents) {
         let path = self.folder.path;
         for name in &contents.others {
@@ -231,7 +231,7 @@ impl<R, V, H: Herald> Service<'_, R, V, H> {
 }
 
 impl<'a, R: Files<File = File> + AllocGlobal + Clone + Drop, V, H> Service<'a, R, V, H> {
-    /// Returns the factory that makes the next journals ready, or why there is no next instance.
+    /// Returns the factory that prepares the next journals, or a fault if there is no next instance.
     fn maker<O: Drop>(
         &self,
         storage: &'a Storage,
@@ -258,8 +258,7 @@ impl<'a, R: Files<File = File> + AllocGlobal + Clone + Drop, V, H> Service<'a, R
 }
 
 impl<R: Files<File = File> + AllocGlobal + Clone + Drop, V, H: Herald> Service<'_, R, V, H> {
-    /// Notes what identifiers begin with, and tells where that isn't what they began with when the folder was served
-    /// last.
+    /// Writes the base of identifiers to the folder. Reports it if the folder was last served with another base.
     fn note_base(&self) -> Result<(), RollingFault> {
         let base = self.site.base.as_str();
         if let Some(before) = self.folder.base()? {
@@ -276,7 +275,7 @@ impl<R: Files<File = File> + AllocGlobal + Clone + Drop, V, H: Herald> Service<'
 }
 
 impl<R: Files<File = File> + AllocGlobal + Clock, V: Herald, H> Service<'_, R, V, H> {
-    /// A journal that was found sound, as one that is served.
+    /// Opens a journal that was found sound.
     fn open_one<O: Opener>(
         &self,
         opener: &O,
@@ -289,7 +288,7 @@ impl<R: Files<File = File> + AllocGlobal + Clock, V: Herald, H> Service<'_, R, V
         opener.open(file, opening, moment)
     }
 
-    /// The journals that were found sound, as those that are served.
+    /// Opens the journals that were found sound.
     fn open_all<O: Opener>(
         &self,
         opener: &O,
@@ -313,8 +312,8 @@ impl<'a, R: Files<File = File> + AllocGlobal + Clone + Drop + Wait + Clock, V: H
     V,
     H,
 > {
-    /// The journals of a folder, of which there is one at least, and the newest takes what is begun. In those before
-    /// the first of these numbers nothing is.
+    /// Opens the journals of a folder, and begins a new one if the newest accepts no new work. Journals before the
+    /// first of these numbers accept none.
     fn open<O: Opener>(
         &self,
         maker: &mut Maker<'a, R, O>,
@@ -349,7 +348,7 @@ impl<
     V: Herald + Sync,
     H: Herald + Journalist + Sync,
 > Service<'a, R, V, H> {
-    /// Says that it serves, and serves until none can come any more.
+    /// Says that the service serves, and serves until it ends.
     fn serve_roster<O: Opener<Branch = B> + Send + Drop, B: Clerkship + Send + Drop, W: Write>(
         &self,
         storage: &'a Storage,
@@ -387,7 +386,7 @@ impl<
             return Err(RollingFault::Here(fault));
         }
         let journals = storage.journals();
-        // Whichever thread saw it first, and ended all.
+        // Another thread may have seen it first, and ended the service.
         if storage.fail_if_lost(self.rt) {
             self.herald.tell("lra: the fence is another's now: nothing is written any more\n");
         } else if journals.has_failed(self.rt) {
@@ -401,7 +400,7 @@ impl<
         }
     }
 
-    /// The same, of journals that were found sound, in a storage.
+    /// Serves journals that were found sound, in a storage.
     fn serve_on<
         O: Opener<Branch = B> + Send + Drop,
         B: Clerkship + Send + Drop,
@@ -437,8 +436,8 @@ impl<
     }
 }
 
-/// Returns the notes of members that operators give up: a file that has these already, where there is a port for
-/// operators, and else none.
+/// Returns the notes of given-up members: a file that has these already, if there is an operators' server, and else
+/// none.
 fn notes_of<R: Files<File = File> + AllocGlobal + Clone + Drop>(
     folder: &Folder<'_, R>,
     is_watched: bool,
@@ -453,11 +452,11 @@ fn notes_of<R: Files<File = File> + AllocGlobal + Clone + Drop>(
     }
 }
 
-/// Serves the coordinators of a folder's journals at an address, as [`lra_service::serve_with`] does that of a file.
-/// What is begun, and names no journal, goes to the newest; once that is full, or has as many actions as it is to have,
-/// the next one takes its place. A journal that isn't the newest is put away once nothing of it is left to be done.
-/// Where there is a post for operators, one more thread answers them there, of all journals. A service that drains ends
-/// gently once nothing is left to be done of any journal, for as long as that would be kept at hand.
+/// Serves the coordinators of a folder's journals at an address, as [`lra_service::serve_with`] serves that of a file.
+/// New work that names no journal goes to the newest journal. Once that is full, or has as many actions as it is to
+/// have, the next one replaces it. A journal that isn't the newest is archived once nothing of it is left to be done.
+/// If there is an operators' server, one more thread runs it, for all journals. A service that drains ends gently once
+/// nothing is left to be done in any journal, for as long as the journal would stay.
 pub fn serve_folder<
     R: Files<File = File>
         + KeyFiles

@@ -31,22 +31,22 @@ use std::sync::atomic::{AtomicBool, AtomicU64, Ordering};
 use std::sync::{Arc, Wait};
 use std::time;
 
-/// The duty of a thread.
+/// Role of a thread.
 #[derive(Clone, Copy, Debug, PartialEq, Eq)]
 pub(crate) enum Duty {
-    /// Accepts connections.
+    /// Acceptor of connections.
     Admit,
-    /// Answers connections, at that place.
+    /// Connection worker, at that position.
     Answer(u32),
-    /// Answers operators.
+    /// Thread of the operators' server.
     Watch,
-    /// Wakes the callback workers.
+    /// Wake relay of the callback workers.
     Cry,
-    /// Looks up the names of members' hosts.
+    /// Resolver of the names of members' hosts.
     LookUp,
 }
 
-/// The duties of the threads that answer so many connections at once, and of those beside them.
+/// Returns the roles of so many connection workers, and of the threads beside them.
 pub(crate) fn duties_of(
     alloc: Global,
     workers: u32,
@@ -65,27 +65,27 @@ pub(crate) fn duties_of(
     Ok(duties)
 }
 
-/// State that the threads share.
+/// Service state: what the threads share.
 #[derive(Drop)]
 pub(crate) struct Shift<'s, 'a, R: Wait, H, B> {
     pub(crate) rt: &'a R,
     pub(crate) alloc: Global,
     pub(crate) herald: &'s H,
     door: Entrance<'s, R>,
-    /// Where the threads wait until all of them stand.
+    /// Latch at which the threads wait until all of them run.
     latch: Latch,
-    /// A flag, set where the thread that was wanted last couldn't be started.
+    /// Mark that the last thread that was wanted couldn't be started.
     is_refused: AtomicBool,
     pub(crate) storage: &'a Storage,
     pub(crate) ending: &'s Arc<Ending>,
     pub(crate) roster: &'s Roster<B>,
-    /// By which terms requests are taken.
+    /// Access policy of requests.
     terms: Terms<'s>,
-    /// The moment at which it began, in milliseconds.
+    /// Moment at which the service began, in milliseconds.
     moment: u64,
     /// Largest number of connections of one connection worker.
     most: usize,
-    /// Times that a client has.
+    /// Time-outs of clients.
     times: Times,
     /// Number of connection workers that haven't ended.
     answering: AtomicU64,
@@ -94,11 +94,12 @@ pub(crate) struct Shift<'s, 'a, R: Wait, H, B> {
     crier: Crier,
     /// State that the callback workers of all journals share.
     calling: Calling,
-    /// Where operators come in, and what they are told.
+    /// Operators' server, and what it reports.
     pub(crate) tower: &'s Tower<'a>,
 }
 
-/// Gate of a callback worker for a journal: as at a file's, until the journal is put away.
+/// Gate of a journal's callback worker. It is that of a file's callback worker, and closes once the journal is
+/// archived.
 #[derive(Drop)]
 struct JournalGate<'a, R: Wait, B, J> {
     gate: CarrierGate<'a, R, Journals<FileDisk>, J>,
@@ -126,7 +127,7 @@ impl<R: Wait + time::Clock, B: Drop, J: Journalist> Gate for JournalGate<'_, R, 
 }
 
 impl<'s, 'a: 's, R: Wait, H, B> Shift<'s, 'a, R, H, B> {
-    /// One that begins.
+    /// Returns the state of a service that begins.
     pub(crate) fn new(
         rt: &'a R,
         alloc: Global,
@@ -166,7 +167,7 @@ impl<'s, 'a: 's, R: Wait, H, B> Shift<'s, 'a, R, H, B> {
         }
     }
 
-    /// The moment at which it began, in milliseconds.
+    /// Returns the moment at which the service began, in milliseconds.
     pub(crate) fn began(&self) -> u64 {
         self.moment
     }
@@ -176,7 +177,7 @@ impl<'s, 'a: 's, R: Wait, H, B> Shift<'s, 'a, R, H, B> {
         self.door.load()
     }
 
-    /// Tells whether the disk has failed.
+    /// Returns whether the disk has failed.
     pub(crate) fn has_failed(&self) -> bool {
         self.journals().has_failed(self.rt)
     }
@@ -207,22 +208,22 @@ impl<'s, 'a: 's, R: Wait, H, B> Shift<'s, 'a, R, H, B> {
         }
     }
 
-    /// No one answers any more.
+    /// Closes the accept queues, so that the connection workers end.
     pub(crate) fn close(&self) {
         self.door.close();
     }
 
-    /// Returns how many connection workers there are, if none has ended.
+    /// Returns how many connection workers the service began with.
     pub(crate) fn workers(&self) -> u64 {
         self.workers
     }
 
-    /// Lets the threads that wait at the latch work.
+    /// Releases the threads that wait at the latch.
     pub(crate) fn begin(&self) {
         self.latch.decide(self.rt, true);
     }
 
-    /// Ends the threads that wait, since another couldn't be started. Returns why the service doesn't serve.
+    /// Ends the threads that wait at the latch, since another couldn't be started. Returns the fault of the service.
     pub(crate) fn give_up(&self) -> ServeFault {
         self.latch.decide(self.rt, false);
         ServeFault::Address
@@ -230,14 +231,14 @@ impl<'s, 'a: 's, R: Wait, H, B> Shift<'s, 'a, R, H, B> {
 }
 
 impl<'s, 'a: 's, R: Wait + time::Clock, H, B> Shift<'s, 'a, R, H, B> {
-    /// The clock of one of the threads.
+    /// Returns a clock for one of the threads.
     pub(crate) fn clock(&self) -> SystemClock<'a, R> {
         SystemClock::new(self.rt, self.moment)
     }
 }
 
 impl<'s, 'a: 's, R: Wait, H: Journalist, B> Shift<'s, 'a, R, H, B> {
-    /// Notes whether the thread that was wanted last was started. While none could be, that counts as one that is lost.
+    /// Records whether the last thread was started. While none can be, a callback worker counts as lost.
     pub(crate) fn note_thread(&self, is_started: bool) {
         let was_refused = self.is_refused.swap(!is_started, Ordering::SeqCst);
         if is_started && was_refused {
@@ -250,8 +251,8 @@ impl<'s, 'a: 's, R: Wait, H: Journalist, B> Shift<'s, 'a, R, H, B> {
 }
 
 impl<'s, 'a: 's, R: Wait, H: Herald + Journalist, B> Shift<'s, 'a, R, H, B> {
-    /// Tells why the callback worker of a journal has ended, unless the disk has failed: then the program ends, and
-    /// says so.
+    /// Reports why the callback worker of a journal has ended, unless the disk has failed. Then the program ends and
+    /// reports that.
     fn tell_end(&self, end: WorkerEnd, journal: Instance) {
         if !self.has_failed() {
             let tallies = &self.tower.tallies;
@@ -261,7 +262,7 @@ impl<'s, 'a: 's, R: Wait, H: Herald + Journalist, B> Shift<'s, 'a, R, H, B> {
 }
 
 impl<'s, 'a: 's, R: Wait, H, B: Drop> Shift<'s, 'a, R, H, B> {
-    /// Notes that a connection worker has ended: with the last one all threads end.
+    /// Records that a connection worker has ended. With the last one, ends all threads.
     fn leave(&self) {
         if self.answering.fetch_sub(1, Ordering::SeqCst) <= 1 {
             self.calling.names.close(self.rt);
@@ -271,8 +272,8 @@ impl<'s, 'a: 's, R: Wait, H, B: Drop> Shift<'s, 'a, R, H, B> {
         }
     }
 
-    /// Hands on the connections that come, until there are to be no others. Then it wakes the callback workers, which
-    /// look whether they are to end.
+    /// Accepts connections and hands them to the workers, until the service accepts no more. Then wakes the callback
+    /// workers, which check whether they are to end.
     fn admit(&self) {
         self.door.open();
         self.roster.ring(self.rt);
@@ -280,7 +281,7 @@ impl<'s, 'a: 's, R: Wait, H, B: Drop> Shift<'s, 'a, R, H, B> {
 }
 
 impl<'s, 'a: 's, R: Wait + time::Clock, H, B: Drop> Shift<'s, 'a, R, H, B> {
-    /// Wakes the callback workers.
+    /// Runs the wake relay of the callback workers.
     fn cry(&self) {
         self.crier
             .run(self.rt, self.alloc, self.roster, self.ending);
@@ -288,13 +289,12 @@ impl<'s, 'a: 's, R: Wait + time::Clock, H, B: Drop> Shift<'s, 'a, R, H, B> {
 }
 
 impl<'s, 'a: 's, R: Wait + time::Clock + Net, H, B: Drop> Shift<'s, 'a, R, H, B> {
-    /// Looks up the names of members' hosts.
+    /// Resolves the names of members' hosts.
     fn look_up(&self) {
         self.calling.names.run(self.rt, &self.crier.bells);
     }
 
-    /// Tries to make the callbacks of a journal's callback worker: none are under way. Where memory is refused the poll
-    /// is given back.
+    /// Makes the callback pool of a journal, with no callback under way. Where memory is refused it returns the poll.
     fn try_callbacks<'b>(
         &'b self,
         journal: &'b Journal<B>,
@@ -323,7 +323,7 @@ impl<'s, 'a: 's, R: Wait + time::Clock + Net, H, B: Drop> Shift<'s, 'a, R, H, B>
 }
 
 impl<'s, 'a: 's, R: Wait + time::Clock, H: Journalist, B: Clerkship + Drop> Shift<'s, 'a, R, H, B> {
-    /// Answers operators, where any come in, until no one answers any more.
+    /// Serves operators, if there is a server for them, until no connection worker is left.
     fn watch(&self) {
         if let Some(post) = self.tower.post {
             let mut lookout = Lookout::new(self.alloc, self, self.clock());
@@ -342,7 +342,7 @@ impl<'s, 'a: 's, R: Wait + time::Clock, H: Journalist, B: Clerkship + Drop> Shif
         }
     }
 
-    /// Enrols a clerk of a journal's coordinator, once that can be done, as long as the gate lets turns be made.
+    /// Enrols a clerk of a journal's coordinator. Retries until that succeeds, or returns nothing once the gate closes.
     fn enrol(&self, journal: &Journal<B>, gate: &mut JournalGate<'_, R, B, H>) -> Option<B> {
         for _ in self.rt.forever() {
             if let Some(branch) = journal.fork(self.rt, self.clock().now()) {
@@ -364,7 +364,7 @@ impl<'s, 'a: 's, R: Wait + time::Clock + Net, H: Journalist, B: Clerkship + Drop
     H,
     B,
 > {
-    /// Makes them, once there is memory, as long as the gate lets turns be made.
+    /// Makes the callback pool of a journal. Retries until there is memory, or returns nothing once the gate closes.
     fn callbacks<'b>(
         &'b self,
         journal: &'b Journal<B>,
@@ -396,7 +396,7 @@ impl<'s, 'a: 's, R: Wait + time::Clock + Net, H: Herald + Journalist, B: Clerksh
     H,
     B,
 > {
-    /// Lets limits fire and carries errands of a journal, many at once, with a poll of its own.
+    /// Fires the limits of a journal and carries out its errands, many at once, with a poll of its own.
     fn carry_with(&self, journal: &Journal<B>, poll: Poll) {
         let mut gate = self.gate(journal);
         let Some(branch) = self.enrol(journal, &mut gate) else {
@@ -414,8 +414,8 @@ impl<'s, 'a: 's, R: Wait + time::Clock + Net, H: Herald + Journalist, B: Clerksh
         self.tell_end(end, journal.instance);
     }
 
-    /// Lets limits fire and carries errands of a journal, many at once. Where it has no place for that no one answers
-    /// any more.
+    /// Fires the limits of a journal and carries out its errands, many at once. If the journal's worker slot has no
+    /// poll, closes the accept queues.
     pub(crate) fn carry(&self, journal: &Journal<B>) {
         let poll = journal.stall.poll.lock(self.rt).take();
         match poll {
@@ -424,7 +424,7 @@ impl<'s, 'a: 's, R: Wait + time::Clock + Net, H: Herald + Journalist, B: Clerksh
         }
     }
 
-    /// Waits until all threads stand, and carries the callbacks of a journal.
+    /// Waits until all threads run, and then works as the callback worker of a journal.
     pub(crate) fn stand_and_carry(&self, journal: &Journal<B>) {
         if self.latch.pass(self.rt) {
             self.carry(journal);
@@ -439,7 +439,7 @@ impl<
     H: Herald + Journalist,
     B: Clerkship + Drop,
 > Shift<'s, 'a, R, H, B> {
-    /// Answers the connections that come in there.
+    /// Serves the connections of an accept queue.
     fn answer_at(&self, arrivals: &Arrivals) {
         let mut kin = Kin::new(self.rt, self.alloc, self.roster, self.clock());
         let Some(family) = kin.begin(self.alloc) else {
@@ -474,7 +474,7 @@ impl<
         drop(dismiss(received));
     }
 
-    /// Answers connections.
+    /// Works as the connection worker at that position.
     fn answer(&self, place: u32) {
         if let Some(arrivals) = self.door.arrivals(place) {
             self.answer_at(arrivals);
@@ -483,7 +483,7 @@ impl<
         self.leave();
     }
 
-    /// Waits until all threads stand, and does a duty.
+    /// Waits until all threads run, and then works in a role.
     pub(crate) fn stand(&self, duty: Duty) {
         if !self.latch.pass(self.rt) {
             return;

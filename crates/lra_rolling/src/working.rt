@@ -21,10 +21,10 @@ use std::thread;
 use std::thread::{Builder, Threads};
 use std::time::Clock;
 
-/// Starts a thread for each duty, and a callback worker for each journal; says that the service serves; and looks after
-/// the journals, with a callback worker for each new one, until no connection worker answers any more. Where a thread
-/// can't be started before that is said, nothing is said, and those that stand end at once. Later the journal that it
-/// was wanted for is given up, and made anew after a pause.
+/// Starts a thread for each role, and a callback worker for each journal. Then it says that the service serves, and
+/// maintains the journals, with a callback worker for each new one, until the service is to end or no connection worker
+/// is left. If a thread can't be started before that is said, nothing is said, and the started threads end at once. If
+/// one can't be started later, the journal that it was wanted for is discarded, and prepared anew after a pause.
 pub(crate) fn work<
     'a,
     R: Files<File = File>

@@ -1,4 +1,4 @@
--- Families that grow and shrink, step by step.
+-- Journal sets that grow and shrink, step by step.
 use Rattle.std.proofs.Common.{List}
 use Rattle.lra_commands.specs.Counters.{Sight}
 use Rattle.lra_family_front.specs.Households.{KeepsBase, Moved}
@@ -16,5 +16,5 @@ keeps_none ss = kin.keeps_none ss
 pub keeps_on : (ss us ts : List Sight) → KeepsBase ss us → KeepsBase us ts → KeepsBase ss ts
 keeps_on ss us ts h k = kin.keeps_on ss us ts h k
 
--- for `auto`: a family stays or grows, and keeps its base, step by step
+-- for `auto`: a journal set stays or grows, and keeps its base, step by step
 pub ruleset steps = (moved_none, moved_on, keeps_none, keeps_on)

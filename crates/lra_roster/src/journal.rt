@@ -1,4 +1,4 @@
-//! One journal of a folder that is served.
+//! One served journal of a folder.
 
 use lra_branch::Clerkship;
 use lra_callbacks::ring;
@@ -13,30 +13,30 @@ use std::net::Net;
 use std::sync::atomic::{AtomicBool, AtomicU64, Ordering};
 use std::sync::{Arc, Mutex, Wait};
 
-/// One journal of a folder, with the branch `B` of its coordinator.
+/// One served journal of a folder, with the branch `B` of its coordinator.
 #[derive(Drop)]
 pub struct Journal<B> {
     pub instance: Instance,
     pub file: Arc<JournalFile>,
-    /// Number of entries that it had when it was opened.
+    /// Number of entries that the journal had when it was opened.
     entries: u64,
-    /// From this clerk each thread has its own.
+    /// Branch with a clerk, from which each thread forks its own. It is `None` once the coordinator has ended.
     branch: Mutex<Option<B>>,
-    /// The place of its callback worker.
+    /// Worker slot of the journal's callback worker.
     pub stall: Stall,
-    /// Bells that wake its callback worker.
+    /// Wakers of the journal's callback worker.
     pub bells: Arc<Vec<Waker>>,
-    /// Outcomes of its members' last callbacks.
+    /// Outcomes of the last callbacks of the journal's members.
     pub outcomes: Outcomes,
-    /// Number of bytes that it had when it was asked last whether it has news.
+    /// Number of bytes that the journal had at the last check for news.
     heard: AtomicU64,
-    /// Nothing new is begun in it.
+    /// Mark that the journal is closed to new work.
     pub(crate) is_reserved: AtomicBool,
-    /// It is put away.
+    /// Mark that the journal is archived.
     is_over: AtomicBool,
 }
 
-/// Returns the bells of one worker, unless memory is refused.
+/// Returns the wakers of one worker, unless memory is refused.
 fn bells_of(alloc: Global, bell: Waker) -> Option<Arc<Vec<Waker>>> {
     let mut bells = Vec::new(alloc);
     bells.push(bell).ok()?;
@@ -44,7 +44,7 @@ fn bells_of(alloc: Global, bell: Waker) -> Option<Arc<Vec<Waker>>> {
 }
 
 impl<B: Clerkship + Drop> Journal<B> {
-    /// A journal, which was opened with so many entries, with a clerk of it.
+    /// Returns a journal with a clerk. It was opened with so many entries.
     pub fn new<R: Net>(
         rt: &R,
         alloc: Global,
@@ -78,18 +78,18 @@ impl<B: Clerkship + Drop> Journal<B> {
         })
     }
 
-    /// Another clerk of its coordinator, where one can be enrolled.
+    /// Enrols another clerk of the journal's coordinator, if one can be enrolled.
     pub fn fork<R: Wait>(&self, rt: &R, moment: u64) -> Option<B> {
         self.branch.lock(rt).as_mut()?.fork(moment)
     }
 
-    /// Returns what its coordinator tells of its history, if it does.
+    /// Returns the coordinator's reply to a query of its history, if it has one.
     pub fn query<R: Wait>(&self, rt: &R, query: Query) -> Option<Known> {
         self.branch.lock(rt).as_mut()?.query(query)
     }
 
-    /// Ends its coordinator, where no thread has a clerk of it any more. Returns whether it has ended: then no order
-    /// reaches it.
+    /// Ends the journal's coordinator, if no thread has a clerk of it any more. Returns whether it has ended. No order
+    /// reaches it then.
     pub fn close<R: Wait>(&self, rt: &R) -> bool {
         let mut place = self.branch.lock(rt);
         let Some(branch) = place.take() else {
@@ -106,28 +106,28 @@ impl<B: Clerkship + Drop> Journal<B> {
 }
 
 impl<B: Drop> Journal<B> {
-    /// Returns how many bytes it has.
+    /// Returns how many bytes the journal has.
     pub fn bytes(&self) -> u64 {
         self.file.bytes()
     }
 
-    /// Returns how many entries it has.
+    /// Returns how many entries the journal has.
     pub fn count_entries(&self) -> u64 {
         self.entries.saturating_add(self.file.entries())
     }
 
-    /// Wakes its callback worker.
+    /// Wakes the journal's callback worker.
     pub fn ring(&self) {
         ring(self.bells.as_slice());
     }
 
-    /// Tells whether it has grown since this was asked last, or something is under way.
+    /// Returns whether the journal has grown since the last call, or has callbacks under way.
     pub fn has_news(&self) -> bool {
         let bytes = self.bytes();
         self.heard.swap(bytes, Ordering::SeqCst) != bytes || self.under_way() > 0
     }
 
-    /// Ends its callback worker: it is archived.
+    /// Ends the journal's callback worker, since the journal is archived.
     pub fn finish(&self) {
         self.is_over.store(true, Ordering::SeqCst);
         self.ring();

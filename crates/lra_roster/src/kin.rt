@@ -14,23 +14,23 @@ use std::alloc::Global;
 use std::sync::{Arc, Wait};
 use std::time;
 
-/// Membership of a connection worker's family: journals of the roster join it, each with a clerk of its own, and those
-/// that were archived leave it.
+/// Membership of a connection worker's journal set. Journals of the registry join the set, each with a clerk of its
+/// own, and archived journals leave it.
 #[derive(Drop)]
 pub struct Kin<'s, 'a, R: Wait, B> {
     rt: &'a R,
     roster: &'s Roster<B>,
-    /// Those that are in the family.
+    /// Instances of the journals in the set.
     mine: Vec<Instance>,
-    /// The roster's version that the family is known to be of.
+    /// Version of the registry that the set follows.
     seen: u64,
-    /// It couldn't follow the last change that it saw.
+    /// Mark that the set couldn't follow the last change of the registry.
     is_behind: bool,
     clock: SystemClock<'a, R>,
 }
 
 impl<'s, 'a, R: Wait, B> Kin<'s, 'a, R, B> {
-    /// None is in the family.
+    /// Returns a membership without journals.
     pub fn new(
         rt: &'a R,
         alloc: Global,
@@ -48,7 +48,7 @@ impl<'s, 'a, R: Wait, B> Kin<'s, 'a, R, B> {
     }
 }
 
-/// Returns whether a journal of that instance is among them.
+/// Returns whether a journal of that instance is among these.
 fn is_among<B: Drop>(journals: &[Arc<Journal<B>>], instance: Instance) -> bool {
     journals
         .iter()
@@ -56,7 +56,7 @@ fn is_among<B: Drop>(journals: &[Arc<Journal<B>>], instance: Instance) -> bool {
 }
 
 impl<R: Wait + time::Clock, B: Clerkship + Drop> Kin<'_, '_, R, B> {
-    /// A clerk of a journal, which is noted as one of the family's.
+    /// Enrols a clerk of a journal, and records the journal as one of the set.
     fn enrol(&mut self, journal: &Journal<B>) -> Option<B> {
         self.mine.reserve(1).ok()?;
         let branch = journal.fork(self.rt, self.clock.now())?;
@@ -64,7 +64,7 @@ impl<R: Wait + time::Clock, B: Clerkship + Drop> Kin<'_, '_, R, B> {
         Some(branch)
     }
 
-    /// A family of the oldest journal alone, where a clerk can be enrolled there. The others join by the first look.
+    /// Returns a set of the oldest journal alone, if a clerk of it can be enrolled. The others join at the first poll.
     pub fn begin(&mut self, alloc: Global) -> Option<Family<B>>
         ensures base { IfSome result (λ family. HaveBase (base_of family) family) }
     {
@@ -73,7 +73,7 @@ impl<R: Wait + time::Clock, B: Clerkship + Drop> Kin<'_, '_, R, B> {
         Family::new(alloc, branch).ok()
     }
 
-    /// Adds one that is newer than all. Returns whether it did.
+    /// Adds a journal that is newer than all in the set. Returns whether it did.
     #[tactic(auto, using(crate::proofs::Grows::steps))]
     fn join(&mut self, family: &mut Family<B>, journal: &Journal<B>) -> bool
         ensures moved { Moved family.old family.new }
@@ -92,7 +92,7 @@ impl<R: Wait + time::Clock, B: Clerkship + Drop> Kin<'_, '_, R, B> {
         }
     }
 
-    /// Adds those that are newer than all. Returns whether all are there.
+    /// Adds the journals that are newer than all in the set. Returns whether all of these have joined.
     #[tactic(auto, using(crate::proofs::Grows::steps))]
     fn join_all(&mut self, family: &mut Family<B>, journals: &[Arc<Journal<B>>]) -> bool
         ensures moved { Moved family.old family.new }
@@ -106,7 +106,7 @@ impl<R: Wait + time::Clock, B: Clerkship + Drop> Kin<'_, '_, R, B> {
         true
     }
 
-    /// Removes those that are no more among the journals. The family's newest stays until another one is.
+    /// Removes the journals that have left the registry. The set's newest journal stays until a newer one has joined.
     #[tactic(auto, using(crate::proofs::Grows::steps))]
     fn leave_all(&mut self, family: &mut Family<B>, journals: &[Arc<Journal<B>>])
         ensures moved { Moved family.old family.new }
@@ -121,7 +121,7 @@ impl<R: Wait + time::Clock, B: Clerkship + Drop> Kin<'_, '_, R, B> {
         self.mine.retain(|instance| instance.number() == newest || is_among(journals, *instance));
     }
 
-    /// Adds and removes journals. Returns whether the family is of the roster by now.
+    /// Adds and removes journals. Returns whether the set follows the registry now.
     #[tactic(auto, using(crate::proofs::Grows::steps))]
     fn catch_up(&mut self, family: &mut Family<B>) -> bool
         ensures moved { Moved family.old family.new }
@@ -135,7 +135,7 @@ impl<R: Wait + time::Clock, B: Clerkship + Drop> Kin<'_, '_, R, B> {
         follows
     }
 
-    /// Notes whether it follows the roster.
+    /// Records whether the set follows that version of the registry.
     fn note(&mut self, follows: bool, version: u64) {
         if follows {
             self.seen = version;
@@ -152,7 +152,7 @@ impl<R: Wait + time::Clock, B: Clerkship + Drop> Kin<'_, '_, R, B> {
 }
 
 impl<R: Wait + time::Clock, B: Clerkship + Drop> Kinship<B> for Kin<'_, '_, R, B> {
-    // Journals come and go whenever they like: nothing is known of what is told.
+    // Journals may join and leave at any time, so the contract says nothing of the result.
     ghost tells = { λ named lacks. Unit {0} };
 
     #[tactic(auto, using(crate::proofs::Grows::steps))]

@@ -1,5 +1,5 @@
-//! The journals of a folder that are served: what each thread answers for, what is known of each, and when one is full
-//! or may be put away.
+//! The served journals of a folder: their registry, each connection worker's membership, and what the rotation manager
+//! knows of each journal.
 #![tactic(auto)]
 
 mod journal;

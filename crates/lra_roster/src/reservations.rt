@@ -1,11 +1,11 @@
-//! The journals of a roster that are near their end.
+//! The journals of a registry that are near their end.
 
 use crate::roster::Roster;
 use lra_model::Instance;
 use lra_reserve::Reserve;
 use std::sync::Wait;
 
-/// Asks a roster which of its journals are near their end.
+/// Reserve of a registry: it finds which of the journals are near their end.
 #[derive(Drop)]
 pub struct Reservations<'s, 'a, R, B> {
     rt: &'a R,
@@ -19,7 +19,7 @@ impl<'s, 'a, R, B> Reservations<'s, 'a, R, B> {
 }
 
 impl<R: Wait, B: Drop> Reserve for Reservations<'_, '_, R, B> {
-    // Journals grow whenever they like: nothing is known of what is told.
+    // Journals may grow at any time, so the contract says nothing of the result.
     ghost tells = { λ named told. Unit {0} };
 
     fn has_any(&self) -> bool {

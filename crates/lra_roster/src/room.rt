@@ -1,12 +1,12 @@
-//! The room that a journal which is nearly full keeps for the ends of what was begun in it.
+//! The room that a nearly full journal reserves for the ends of its actions.
 
 use crate::journal::Journal;
 use lra_rolls::{Counts, Mark, is_near_end, least_pause};
 use std::sync::atomic::Ordering;
 
 impl<B: Drop> Journal<B> {
-    /// Sets how often its silent members are asked, by its entries and how many it may have. Returns the mark that this
-    /// comes to, where it is another pause than before.
+    /// Sets the least back-off of the journal's silent members, by its entries and their limit. Returns the mark that a
+    /// changed back-off has reached, if any.
     pub fn spare(&self, limit: &Counts) -> Option<Mark> {
         let pause = least_pause(self.count_entries(), limit.entries);
         if self.stall.least_pause.swap(pause, Ordering::SeqCst) == pause {
@@ -19,8 +19,8 @@ impl<B: Drop> Journal<B> {
         }
     }
 
-    /// Closes it to new work once it is near its end, by how much it may have of each. Returns the mark of its bytes,
-    /// where they have just come to that.
+    /// Closes the journal to new work once its entries or bytes are near their limit. Returns the mark of bytes, if
+    /// they have just reached it.
     pub fn reserve(&self, limit: &Counts) -> Option<Mark> {
         let is_by_entries = is_near_end(self.count_entries(), limit.entries);
         if !is_by_entries && !is_near_end(self.bytes(), limit.bytes) {
@@ -33,12 +33,12 @@ impl<B: Drop> Journal<B> {
         }
     }
 
-    /// Nothing new is begun in it from now on, however little it has.
+    /// Closes the journal to new work, however little it has.
     pub fn retire(&self) {
         self.is_reserved.store(true, Ordering::SeqCst);
     }
 
-    /// Returns whether nothing new is begun in it.
+    /// Returns whether the journal is closed to new work.
     pub fn is_reserved(&self) -> bool {
         self.is_reserved.load(Ordering::SeqCst)
     }

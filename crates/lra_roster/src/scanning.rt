@@ -1,4 +1,4 @@
-//! Queries that find what a journal has, and whether anything of it is left to be done.
+//! Queries that count what a journal has, and find whether anything of it is left to be done.
 
 use crate::journal::Journal;
 use lra_branch::Clerkship;
@@ -9,7 +9,7 @@ use std::sync::Wait;
 /// Number of queries that a scan makes at once, before the rotation manager does anything else.
 const MOST_AT_ONCE: u64 = 8_192;
 
-/// Kind of what is numbered from 1 on, without gaps.
+/// Kind of a journal's parts that are numbered from 1 on, without gaps.
 #[derive(Clone, Copy, Debug, PartialEq, Eq)]
 pub(crate) enum Kind {
     Action,
@@ -17,7 +17,7 @@ pub(crate) enum Kind {
 }
 
 impl<B: Clerkship + Drop> Journal<B> {
-    /// Returns whether it has one of a kind with that number.
+    /// Returns whether the journal has an action or a member with that number.
     fn has<R: Wait>(&self, rt: &R, kind: Kind, number: u64) -> bool {
         let query = match kind {
             Kind::Action => Query::ActionStatus { action: number },
@@ -37,7 +37,7 @@ impl<B: Clerkship + Drop> Journal<B> {
         }
     }
 
-    /// Returns how many of a kind it has, where it had so many already.
+    /// Returns how many actions or members the journal has. It has the known number of them at least.
     pub(crate) fn count<R: Wait>(&self, rt: &R, kind: Kind, known: u64) -> u64 {
         let mut count = known;
         let mut step = 1u64;
@@ -59,25 +59,25 @@ impl<B: Clerkship + Drop> Journal<B> {
 /// Result of a scan so far.
 #[derive(Clone, Copy, Debug, PartialEq, Eq)]
 pub(crate) enum Scanned {
-    /// There is more to look at.
+    /// The scan isn't at its end.
     Further,
     /// Something is left to be done.
     Busy,
-    /// Nothing is.
+    /// Nothing is left to be done.
     Settled,
 }
 
-/// A look at all actions of a journal and all their members, one after another.
+/// Scan of all actions of a journal and all their members, one after another.
 #[derive(Clone, Copy, Debug, PartialEq, Eq)]
 pub(crate) struct Scan {
-    /// The place of the action that is looked at next.
+    /// The position of the next action.
     actions: u64,
-    /// The action whose members are looked at, and the place of the next of them.
+    /// The action whose members are scanned, and the position of the next member.
     members: Option<(u64, u64)>,
 }
 
 impl Scan {
-    /// Nothing was looked at.
+    /// Returns a scan at its beginning.
     pub fn new() -> Scan {
         Scan {
             actions: 0,
@@ -85,7 +85,7 @@ impl Scan {
         }
     }
 
-    /// Looks at the next action.
+    /// Checks the next action.
     fn step_action<R: Wait, B: Clerkship + Drop>(
         &mut self,
         rt: &R,
@@ -108,7 +108,7 @@ impl Scan {
         }
     }
 
-    /// Looks at the member at the next place of an action.
+    /// Checks the member at that position of an action.
     fn step_member<R: Wait, B: Clerkship + Drop>(
         &mut self,
         rt: &R,
@@ -134,7 +134,7 @@ impl Scan {
         }
     }
 
-    /// Looks at what comes next, and so on for a while.
+    /// Continues the scan for a while.
     pub fn go_on<R: Wait, B: Clerkship + Drop>(&mut self, rt: &R, journal: &Journal<B>) -> Scanned {
         for _ in 0..MOST_AT_ONCE {
             let scanned = match self.members {

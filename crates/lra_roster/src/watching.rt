@@ -1,4 +1,4 @@
-//! The journals as the rotation manager knows them.
+//! The rotation manager's knowledge of a journal.
 
 use crate::journal::Journal;
 use crate::scanning::{Kind, Scan, Scanned};
@@ -7,27 +7,27 @@ use lra_rolls::{Counts, Rest, is_put_away, longer_pause};
 use std::io::ErrorKind;
 use std::sync::{Arc, Wait};
 
-/// A journal, and what is known of it.
+/// A journal, with what the rotation manager knows of it.
 #[derive(Drop)]
 pub struct Watch<B> {
     pub journal: Arc<Journal<B>>,
-    /// Actions and members that it had at the last look.
+    /// Number of actions and members at the last check.
     actions: u64,
     members: u64,
-    /// Bytes that it had, and the moment since which it has had them, in milliseconds.
+    /// Number of bytes at the last check, and the moment since which the journal has had them, in milliseconds.
     bytes: u64,
     since: u64,
-    /// The look at all that it has, unless that came to something that is left to be done.
+    /// Scan of the journal, unless it found something that is left to be done.
     scan: Option<Scan>,
-    /// Reason why it couldn't be archived the last time, if that was tried.
+    /// Reason why the last try to archive the journal failed, if it did.
     why: Option<ErrorKind>,
-    /// Milliseconds that pass until that is tried again, and the moment from which on it is.
+    /// Milliseconds of the pause until the next try to archive, and the moment from which on it may be made.
     pause: u64,
     retry: u64,
 }
 
 impl<B: Drop> Watch<B> {
-    /// Nothing is known of it at a moment.
+    /// Returns a journal of which nothing is known yet, at a moment.
     pub fn new(journal: Arc<Journal<B>>, now: u64) -> Watch<B> {
         Watch {
             journal,
@@ -42,8 +42,8 @@ impl<B: Drop> Watch<B> {
         }
     }
 
-    /// It couldn't be put away at a moment: that is tried again later, each time after a longer pause. Returns whether
-    /// it is for another reason than before.
+    /// Records that archiving failed at a moment. The next try comes after a pause, which is longer each time. Returns
+    /// whether the reason is another one than before.
     pub fn put_off(&mut self, why: ErrorKind, now: u64) -> bool {
         self.pause = longer_pause(self.pause);
         self.retry = now.saturating_add(self.pause);
@@ -52,22 +52,22 @@ impl<B: Drop> Watch<B> {
         is_new
     }
 
-    /// Returns whether it couldn't be archived the last time that this was tried.
+    /// Returns whether the last try to archive the journal failed.
     pub fn is_put_off(&self) -> bool {
         self.why.is_some()
     }
 
-    /// Returns whether it may be tried at a moment to archive it.
+    /// Returns whether archiving may be tried at a moment.
     pub fn may_be_tried(&self, now: u64) -> bool {
         self.retry <= now
     }
 
-    /// Ends writing to its journal, where that has as many bytes as it was judged by. Returns whether that is so.
+    /// Ends writing to the journal's file, if it has as many bytes as at the last check. Returns whether it did.
     pub fn close(&self) -> bool {
         self.journal.file.close_at(self.bytes)
     }
 
-    /// The journal.
+    /// Returns the journal.
     pub fn into_journal(self) -> Arc<Journal<B>> {
         let Watch {
             journal,
@@ -83,7 +83,7 @@ impl<B: Drop> Watch<B> {
         journal
     }
 
-    /// Notes how many bytes it has by now. Tells whether they are others than before.
+    /// Records how many bytes the journal has. Returns whether their number has changed.
     fn has_moved(&mut self, now: u64) -> bool {
         let bytes = self.journal.bytes();
         if bytes == self.bytes {
@@ -100,7 +100,7 @@ impl<B: Drop> Watch<B> {
 }
 
 impl<B: Clerkship + Drop> Watch<B> {
-    /// Counts how much it has of each.
+    /// Counts the journal's actions, members, entries and bytes.
     pub fn counts<R: Wait>(&mut self, rt: &R) -> Counts {
         self.actions = self.journal.count(rt, Kind::Action, self.actions);
         self.members = self.journal.count(rt, Kind::Member, self.members);
@@ -112,7 +112,7 @@ impl<B: Clerkship + Drop> Watch<B> {
         }
     }
 
-    /// Counts how much it has of each, where it has grown since the last look.
+    /// Counts the journal's actions, members, entries and bytes, if it has grown since the last check.
     pub fn news<R: Wait>(&mut self, rt: &R, now: u64) -> Option<Counts> {
         if self.has_moved(now) {
             Some(self.counts(rt))
@@ -121,7 +121,7 @@ impl<B: Clerkship + Drop> Watch<B> {
         }
     }
 
-    /// Goes on with the look at all that it has. Tells whether nothing is left to be done.
+    /// Continues the scan of the journal. Returns whether it has found that nothing is left to be done.
     fn is_settled<R: Wait>(&mut self, rt: &R) -> bool {
         let Some(scan) = &mut self.scan else {
             return false;
@@ -136,7 +136,7 @@ impl<B: Clerkship + Drop> Watch<B> {
         }
     }
 
-    /// Returns whether it is archived by now, as one that isn't the newest, where it is kept at hand so many
+    /// Returns whether the journal is to be archived now, as one that isn't the newest. A journal stays so many
     /// milliseconds after its last entry.
     pub fn is_done<R: Wait>(&mut self, rt: &R, now: u64, remember: u64) -> bool {
         if self.has_moved(now) || !self.may_be_tried(now) {

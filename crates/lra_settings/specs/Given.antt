@@ -1,9 +1,9 @@
--- What is said of the settings of a service.
+-- The values that one source gives to the settings of a service.
 use Rattle.std.specs.Prelude.{None, unwrap_or}
 use Rattle.lra_settings.specs.declared.settings.Settings.{Settings}
 use Rattle.lra_settings.specs.declared.given.Given.{Given}
 
--- nothing is said
+-- no value is given
 abbrev pub nothing : Given
 nothing = record {
   connections = None;
@@ -24,7 +24,7 @@ nothing = record {
   stop_at_eof = None;
 }
 
--- some settings, but for what is said
+-- the settings with the given values in place of theirs
 abbrev pub applied : Given → Settings → Settings
 applied g s = record {
   connections = unwrap_or g.connections s.connections;

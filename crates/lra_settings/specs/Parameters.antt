@@ -1,4 +1,4 @@
--- The numbers among the settings.
+-- The settings that are numbers.
 use Rattle.std.specs.Prelude.{ℕ, Bool, List, ◌&&◌, codes, nat_le}
 use Rattle.lra_settings.specs.declared.parameter.Parameter.{Parameter}
 use Rattle.lra_settings.specs.declared.parameter.Parameter.TheVariants.{Connections, Callbacks, HostShare, IdleTimeout}
@@ -7,7 +7,7 @@ use Rattle.lra_settings.specs.declared.parameter.Parameter.TheVariants.{Callback
 use Rattle.lra_settings.specs.declared.parameter.Parameter.TheVariants.{RetryLast, RollAfter, Remember, Site}
 use Rattle.lra_settings.specs.declared.parameter.Parameter.TheVariants.{DefaultLimit}
 
--- the word of a parameter, on a command line and in a file (this project's choice)
+-- the name of a parameter on a command line and in a file (this project's choice)
 abbrev pub name_of : Parameter → List ℕ
 name_of Connections = codes "connections"
 name_of Callbacks = codes "callbacks"
@@ -25,7 +25,7 @@ name_of Remember = codes "remember"
 name_of Site = codes "site"
 name_of DefaultLimit = codes "default-limit"
 
--- the least that a parameter may be: none but the site's number may be 0 (this project's choice)
+-- the least value of a parameter: only the site's number may be 0 (this project's choice)
 abbrev pub least_of : Parameter → ℕ
 least_of Connections = 1
 least_of Callbacks = 1
@@ -43,8 +43,8 @@ least_of Remember = 1
 least_of Site = 0
 least_of DefaultLimit = 1
 
--- the most that a parameter may be: so many, a day in seconds, a day in milliseconds, a year in seconds, what 16 bits
--- hold, or 2^53, up to which all programs read numbers of JSON alike (RFC 8259, section 6; this project's choice)
+-- the largest value of a parameter: a plain number, a day in seconds, a day in milliseconds, a year in seconds, what 16
+-- bits hold, or 2^53, up to which all programs read numbers of JSON alike (RFC 8259, section 6; this project's choice)
 abbrev pub most_of : Parameter → ℕ
 most_of Connections = 1000000
 most_of Callbacks = 65536
@@ -62,6 +62,6 @@ most_of Remember = 31536000
 most_of Site = 65535
 most_of DefaultLimit = 9007199254740992
 
--- a parameter may be so much
+-- the parameter may have the value
 abbrev pub fits : Parameter → ℕ → Bool
 fits parameter value = nat_le (least_of parameter) value && nat_le value (most_of parameter)

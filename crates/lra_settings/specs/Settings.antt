@@ -9,7 +9,7 @@ use Rattle.lra_settings.specs.declared.parameter.Parameter.TheVariants.{DefaultL
 use Rattle.lra_settings.specs.declared.settings.Settings.{Settings}
 use Rattle.lra_settings.specs.Parameters.{fits}
 
--- the settings where nothing is said (this project's choice)
+-- the default settings (this project's choice)
 abbrev pub usual : Settings
 usual = record {
   connections = 10000;
@@ -30,7 +30,7 @@ usual = record {
   stop_at_eof = false;
 }
 
--- what a parameter is
+-- the value of a parameter
 abbrev pub value_of : Settings → Parameter → ℕ
 value_of s Connections = s.connections
 value_of s Callbacks = s.callbacks
@@ -48,11 +48,11 @@ value_of s Remember = s.remember_seconds
 value_of s Site = s.site
 value_of s DefaultLimit = s.default_limit_ms
 
--- there is no default limit, or it may be what it is
+-- there is no default limit, or its value is in its range
 abbrev pub is_limit_fit : Settings → Bool
 is_limit_fit s = s.default_limit_ms == 0 || fits DefaultLimit s.default_limit_ms
 
--- each parameter may be what it is
+-- each parameter's value is in its range
 abbrev pub are_in_range : Settings → Bool
 are_in_range s =
     (((((((((((((fits Connections s.connections && fits Callbacks s.callbacks) && fits HostShare s.host_share)
@@ -63,6 +63,6 @@ are_in_range s =
     && fits RetryLast s.retry_last_ms) && fits RollAfter s.roll_after) && fits Remember s.remember_seconds)
     && fits Site s.site) && is_limit_fit s
 
--- a service may be run by them: each parameter may be what it is, and the first pause is no longer than the last
+-- a service can run with them: each value is in its range, and the first back-off is no longer than the last
 abbrev pub are_fit : Settings → Bool
 are_fit s = are_in_range s && nat_le s.retry_first_ms s.retry_last_ms

@@ -1,37 +1,37 @@
-//! The shares of the descriptors that the system lets a service have.
+//! Shares of the descriptors that the system grants to a service.
 
 ghost use Rattle.std.specs.Prelude.{◌≡◌};
 ghost use Rattle.lra_settings.specs.Descriptors.{taken_by_file, taken_by_folder, shared};
 
 use crate::settings::Settings;
 
-/// The descriptors that are kept back: for what any program has open, for operators, and for what is opened for a
+/// Number of descriptors that are kept back: for what any program has open, for operators, and for what is opened for a
 /// while.
 const KEPT_BACK: u64 = 64;
 
-/// The fewest descriptors that there have to be beside those: for a connection and a callback.
+/// Least number of descriptors that have to be left beside those: one for a connection and one for a callback.
 const LEAST: u64 = 2;
 
-/// Returns how many descriptors a file's service of so many workers takes beside connections and callbacks: for each
-/// connection worker and each callback worker two to wait with, and one for what a worker's share of the connections is
-/// rounded up; and for the journal its file, and it once more for the log.
+/// Returns how many descriptors the service of one file uses with so many workers, beside those of connections and
+/// callbacks. Each connection worker and each callback worker waits with two. One more for each worker covers the
+/// rounding up of its quota of the connections. The journal's file is open twice: for the journal and for the log.
 pub fn taken_by_file(workers: u32) -> u64
     ensures { result ≡ taken_by_file workers }
 {
     5 * (workers as u64) + 2
 }
 
-/// Returns how many descriptors a folder's service of so many workers and journals takes so, the next journal among
-/// them. There each journal has a callback worker.
+/// Returns how many descriptors the service of a folder uses with so many workers and journals, beside those of
+/// connections and callbacks. The next journal is counted too. Each journal of a folder has a callback worker.
 pub fn taken_by_folder(workers: u32, journals: u32) -> u64
     ensures { result ≡ taken_by_folder workers journals }
 {
     3 * (workers as u64) + 4 * ((journals as u64) + 1)
 }
 
-/// Returns the settings with no more connections and callbacks than there are descriptors for, where so many may be had
-/// and others take so many: callbacks have half of what is left at most. Returns nothing where not even one of each
-/// fits.
+/// Returns the settings with no more connections and callbacks than there are descriptors for. `limit` is the number
+/// that the process may have, and `taken` the number used otherwise. Callbacks get half of what is left at most.
+/// Returns nothing where not even one of each fits.
 pub fn share_descriptors(limit: u64, taken: u64, settings: &Settings) -> Option<Settings>
     ensures { result ≡ shared limit taken settings.now }
 {
@@ -47,7 +47,7 @@ pub fn share_descriptors(limit: u64, taken: u64, settings: &Settings) -> Option<
     })
 }
 
-/// Returns how many descriptors there have to be at least, where others take so many.
+/// Returns the least limit of descriptors with which a service can run, where so many are used otherwise.
 pub fn descriptors_needed(taken: u64) -> u64 {
     taken.saturating_add(KEPT_BACK).saturating_add(LEAST)
 }

@@ -1,4 +1,4 @@
-//! The values that one place gives to the settings.
+//! The values that one source, the command line or a file, gives to the settings.
 
 ghost use Rattle.std.specs.Prelude.{◌≡◌};
 ghost use Rattle.lra_settings.specs.Settings.{usual};
@@ -7,7 +7,7 @@ ghost use Rattle.lra_settings.specs.Given.{applied, nothing};
 use crate::parameter::Parameter;
 use crate::settings::Settings;
 
-/// The values that one place gives to the settings. It gives none to those that are `None`.
+/// The values that one source gives to the settings. A setting that it doesn't give is `None`.
 #[derive(Clone, Copy, Debug, PartialEq, Eq)]
 pub struct Given {
     pub connections: Option<u64>,
@@ -29,7 +29,7 @@ pub struct Given {
 }
 
 impl Given {
-    /// Nothing is said.
+    /// Returns the values of a source that gives none.
     pub fn nothing() -> Given
         ensures { result ≡ nothing }
     {
@@ -53,7 +53,7 @@ impl Given {
         }
     }
 
-    /// It is said what a parameter is.
+    /// Sets the value of a parameter.
     pub fn put(&mut self, parameter: Parameter, value: u64) {
         let place = match parameter {
             Parameter::Connections => &mut self.connections,
@@ -75,7 +75,7 @@ impl Given {
         *place = Some(value);
     }
 
-    /// Some settings, but for what is said.
+    /// Returns the settings with the values that are given here in place of theirs.
     fn applied(&self, settings: Settings) -> Settings
         ensures { result ≡ applied self.now settings }
     {
@@ -100,8 +100,8 @@ impl Given {
     }
 }
 
-/// The settings by what is said on a line and in a file: what the line says goes before what the file does, and where
-/// neither says anything they are the usual ones.
+/// Returns the settings from a command line and a file. The line's values have precedence over the file's. A setting
+/// that neither gives has its default.
 pub fn settings_of(line: &Given, file: &Given) -> Settings
     ensures { result ≡ applied line.now (applied file.now usual) }
 {

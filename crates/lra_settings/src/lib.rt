@@ -1,5 +1,5 @@
-//! The settings of a service: how much it has at once, how long each waits for another, when a folder's journals roll,
-//! and what each number may be.
+//! The settings of a service: how much it handles at once, its time-outs, when a folder's journals are rotated, and the
+//! range of each number.
 #![tactic(auto)]
 
 mod descriptors;

@@ -1,9 +1,9 @@
-//! The numbers among the settings.
+//! The settings that are numbers.
 
 ghost use Rattle.std.specs.Prelude.{◌≡◌, ◌&&◌, IfSome, nat_le};
 ghost use Rattle.lra_settings.specs.Parameters.{name_of, least_of, most_of, fits};
 
-/// A number among the settings.
+/// A setting that is a number.
 #[derive(Clone, Copy, Debug, PartialEq, Eq)]
 pub enum Parameter {
     Connections,
@@ -24,7 +24,7 @@ pub enum Parameter {
 }
 
 impl Parameter {
-    /// All of them.
+    /// All parameters.
     pub const ALL: [Parameter; 15] = [
         Parameter::Connections,
         Parameter::Callbacks,
@@ -43,7 +43,7 @@ impl Parameter {
         Parameter::DefaultLimit,
     ];
 
-    /// Its word, on a command line and in a file.
+    /// Returns the parameter's name on a command line and in a file.
     pub const fn name(self) -> &'static str
         ensures { result.now ≡ name_of self }
     {
@@ -66,7 +66,7 @@ impl Parameter {
         }
     }
 
-    /// The parameter of a word, if there is one.
+    /// Returns the parameter of a name, if there is one.
     pub fn from_name(text: &str) -> Option<Parameter>
         ensures { IfSome result (λ parameter. text.now ≡ name_of parameter) }
     {
@@ -78,7 +78,7 @@ impl Parameter {
         None
     }
 
-    /// The least that it may be.
+    /// Returns the least value that the parameter may have.
     pub const fn least(self) -> u64
         ensures { result ≡ least_of self }
     {
@@ -88,7 +88,7 @@ impl Parameter {
         }
     }
 
-    /// The most that it may be.
+    /// Returns the largest value that the parameter may have.
     pub const fn most(self) -> u64
         ensures { result ≡ most_of self }
     {
@@ -111,7 +111,7 @@ impl Parameter {
         }
     }
 
-    /// Returns whether it may be so much.
+    /// Returns whether the parameter may have that value.
     pub fn fits(self, value: u64) -> bool
         ensures { result ≡ fits self value }
     {

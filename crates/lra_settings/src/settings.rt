@@ -5,46 +5,46 @@ ghost use Rattle.lra_settings.specs.Settings.{usual, value_of, is_limit_fit, are
 
 use crate::parameter::Parameter;
 
-/// The settings of a service: how much it has at once, how long each waits for another, when a folder's journals roll,
-/// and what limit starts have that give none.
+/// The settings of a service: how much it handles at once, its time-outs, when a folder's journals are rotated, and the
+/// default limit of starts.
 #[derive(Clone, Copy, Debug, PartialEq, Eq)]
 pub struct Settings {
     /// The number of connections at once.
     pub connections: u64,
     /// The number of callbacks at once.
     pub callbacks: u64,
-    /// The number of them that go to one host and port.
+    /// The number of callbacks at once to one host and port.
     pub host_share: u64,
-    /// The seconds that a client has until its next request begins.
+    /// The seconds until a client has to begin its next request.
     pub idle_seconds: u64,
-    /// The seconds that it has for a whole request, from the first byte on.
+    /// The seconds that a client has for a whole request, from its first byte on.
     pub request_seconds: u64,
-    /// The seconds that it has to take the replies that wait.
+    /// The seconds that a client has to read the replies that wait for it.
     pub reply_seconds: u64,
-    /// The seconds that a member has to take a connection.
+    /// The seconds that a member has to accept a connection.
     pub connect_seconds: u64,
-    /// The seconds that it has for a whole callback, the connection included.
+    /// The seconds that a member has for a whole callback, the connection included.
     pub callback_seconds: u64,
-    /// The seconds that a sync of the disk may take before the service isn't ready.
+    /// The seconds that a sync of the disk may take before the service counts as not ready.
     pub sync_seconds: u64,
-    /// The milliseconds that pass before a member is asked again for the first time.
+    /// The milliseconds of the first back-off, until a member is asked again for the first time.
     pub retry_first_ms: u64,
-    /// The milliseconds that pass at most before it is asked again.
+    /// The milliseconds of the longest back-off.
     pub retry_last_ms: u64,
-    /// The number of actions that a folder's journal takes before the next one is begun.
+    /// The number of actions that a folder's journal accepts before the next journal is begun.
     pub roll_after: u64,
-    /// The seconds that a journal of a folder whose actions have all ended stays before it is put away.
+    /// The seconds that a folder's journal stays after all its actions have ended, before it is archived.
     pub remember_seconds: u64,
-    /// The number with which the identifiers of a folder's journals begin.
+    /// The number of the site, with which the identifiers of a folder's journals begin.
     pub site: u64,
-    /// The milliseconds of the limit that a start has which gives none. 0 is no limit.
+    /// The milliseconds of the limit of a start that gives none. 0 is no limit.
     pub default_limit_ms: u64,
-    /// The service ends gently once standard input has ended.
+    /// The mark that the service ends gently once standard input has ended.
     pub stop_at_eof: bool,
 }
 
 impl Settings {
-    /// Those where nothing is said.
+    /// Returns the default settings.
     pub const fn usual() -> Settings
         ensures { result ≡ usual }
     {
@@ -91,14 +91,14 @@ impl Settings {
         }
     }
 
-    /// Returns whether there is no default limit, or it may be what it is.
+    /// Returns whether there is no default limit, or its value is in its range.
     fn is_limit_fit(&self) -> bool
         ensures { result ≡ is_limit_fit self.now }
     {
         self.default_limit_ms == 0 || Parameter::DefaultLimit.fits(self.default_limit_ms)
     }
 
-    /// Returns whether each parameter may be what it is.
+    /// Returns whether each parameter's value is in its range.
     fn are_in_range(&self) -> bool
         ensures { result ≡ are_in_range self.now }
     {
@@ -119,8 +119,8 @@ impl Settings {
             && self.is_limit_fit()
     }
 
-    /// Returns whether a service may be run by them: each parameter may be what it is, and the first pause is no longer
-    /// than the last.
+    /// Returns whether a service can run with these settings: each parameter's value is in its range, and the first
+    /// back-off is no longer than the last.
     pub fn are_fit(&self) -> bool
         ensures { result ≡ are_fit self.now }
     {

@@ -1,9 +1,9 @@
--- Which lines are written whatever room there is.
+-- The lines that are written even where the limit is reached.
 use Rattle.std.specs.Prelude.{Bool, true, false}
 use Rattle.log.specs.declared.level.Level.{Level}
 use Rattle.log.specs.declared.level.Level.TheVariants as level
 
--- whether a line at a level is written whatever room there is: a warning or an error
+-- whether a line at a level is written even where the limit is reached: a warning or an error
 abbrev pub is_urgent : Level → Bool
 is_urgent level.Error = true
 is_urgent level.Warn = true
