@@ -1,11 +1,11 @@
-//! Counts of a journal as it grows.
+//! Counts of a journal's entries and actions as it grows.
 
 use lra_auditor::Follower;
 use lra_journal::{DeedRef, EntryRef};
 use lra_model::{ActionStatus, Instance, Memory, Version};
 use std::alloc::Global;
 
-/// Number of entries that came, and the status of each action, in the order of their numbers.
+/// Number of entries so far, and the status of each action, in the order of the actions' numbers.
 #[derive(Drop)]
 pub struct Counts {
     entries: u64,
@@ -13,7 +13,7 @@ pub struct Counts {
 }
 
 impl Counts {
-    /// No entry yet.
+    /// Makes counts of no entry.
     pub fn new(alloc: Global) -> Counts {
         Counts {
             entries: 0,
@@ -21,12 +21,12 @@ impl Counts {
         }
     }
 
-    /// Returns how many entries came.
+    /// Returns the number of entries so far.
     pub fn entries(&self) -> u64 {
         self.entries
     }
 
-    /// Returns how many actions started.
+    /// Returns the number of actions that started.
     pub fn actions(&self) -> u64 {
         self.statuses.len() as u64
     }
@@ -42,7 +42,7 @@ impl Counts {
         count
     }
 
-    /// An action has another status.
+    /// Records the new status of an action.
     fn turn(&mut self, action: u64, status: ActionStatus) {
         if let Some(old) = self.statuses.get_mut(action.wrapping_sub(1) as usize) {
             *old = status;

@@ -1,4 +1,4 @@
-//! One journal that is followed, and what was told of it.
+//! One journal that is followed, and what was reported of it.
 
 use crate::texts::{Lost, lost_line, sound_line};
 use crate::watch::{Extent, Seen, Watch};
@@ -9,24 +9,24 @@ use std::fs::File;
 use std::io::Write;
 use std::rt::Files;
 
-/// Least number of looks from one line to the next.
+/// Least number of polls from one line that is written to the next.
 const LOOKS: u64 = 4;
 
-/// A journal that is followed.
+/// Journal that is followed.
 #[derive(Drop)]
 pub(crate) struct Followed {
     alloc: Global,
-    /// Text before each line that is told of it.
+    /// Text before each line that is written of the journal.
     front: String,
     watch: Watch,
-    /// Number of entries that were told of, if any line was.
+    /// Number of entries in the last line that was written of the journal, if any was.
     told: Option<u64>,
-    /// Number of looks since.
+    /// Number of polls since that line.
     looks: u64,
 }
 
 impl Followed {
-    /// The journal in the file of a path, of which nothing was read yet.
+    /// Opens the journal at a path. Nothing of it is read yet.
     pub(crate) fn new<R: Files<File = File>>(
         rt: &R,
         alloc: Global,
@@ -43,18 +43,17 @@ impl Followed {
         })
     }
 
-    /// Reads all that its file has now.
+    /// Polls the journal: reads all that its file has now.
     pub(crate) fn look<R: Files<File = File>>(&mut self, rt: &R) -> Result<Seen, RunFault> {
         self.watch.look(rt)
     }
 
-    /// Returns what of its file was read.
+    /// Returns which file was read, and how many bytes of it.
     pub(crate) fn extent(&self) -> Extent {
         self.watch.extent()
     }
 
-    /// Goes on at another path, with another text before each line, where its file is there now. The answer is whether
-    /// it is.
+    /// Goes on at another path, with another text before each line, if the file is there now. Returns whether it is.
     pub(crate) fn moves_to<R: Files<File = File>>(
         &mut self,
         rt: &R,
@@ -68,7 +67,7 @@ impl Followed {
         is_there
     }
 
-    /// Returns how many entries came, where any whole line did.
+    /// Returns the number of entries so far, or None before the first whole line.
     fn entries(&self) -> Option<u64> {
         match self.watch.tail() {
             Some(tail) if tail.fed() > 0 => Some(tail.counts().entries()),
@@ -76,7 +75,7 @@ impl Followed {
         }
     }
 
-    /// Returns whether all that came was told.
+    /// Returns whether the last line that was written counts all entries so far.
     pub(crate) fn is_told(&self) -> bool {
         self.entries() == self.told
     }
@@ -92,8 +91,8 @@ impl Followed {
         writer.flush().map_err(|_| RunFault::Write)
     }
 
-    /// Tells that the journal has been sound so far, where entries came that weren't told of, and the last line is old
-    /// enough or this is the last.
+    /// Writes that the journal has been sound so far, if there are entries that weren't reported. Does so every `LOOKS`
+    /// polls at most, and at the last poll.
     fn tell_sound<W: Write>(&mut self, is_last: bool, writer: &mut W) -> Result<(), RunFault> {
         self.looks = self.looks.saturating_add(1);
         if !self.is_told() && (is_last || self.looks >= LOOKS) {
@@ -104,18 +103,18 @@ impl Followed {
         Ok(())
     }
 
-    /// Writes which line is at fault. The answer is the program's status.
+    /// Writes which line is at fault. Returns the program's status.
     fn tell_fault<W: Write>(&self, fault: FaultyLine, writer: &mut W) -> Result<u8, RunFault> {
         put(writer, self.front.as_bytes())?;
         report_fault(self.alloc, fault.line, fault.rule, writer)
     }
 
-    /// Tells on standard error why it can't be followed any more. The answer is the program's status.
+    /// Writes to standard error why the journal can't be followed any more. Returns the program's status.
     fn tell_lost<R: Eprint>(&self, rt: &R, lost: Lost) -> u8 {
         tell(rt, lost_line(self.alloc, self.watch.path(), lost))
     }
 
-    /// Tells what was seen at a look: the program's status, where it ends by that.
+    /// Writes the outcome of a poll. Returns the program's status if the program ends by that outcome.
     pub(crate) fn tell<R: Eprint, W: Write>(
         &mut self,
         rt: &R,

@@ -1,4 +1,4 @@
-//! The journals of a folder, followed side by side.
+//! Journals of a folder, followed side by side.
 
 use crate::followed::Followed;
 use crate::texts::Lost;
@@ -13,30 +13,31 @@ use std::rt::Files;
 /// Text before the name of a journal that was archived.
 const ENDED: &str = "ended/";
 
-/// A journal of a folder.
+/// Journal of a folder.
 #[derive(Drop)]
 struct Journal {
-    /// Its name in the folder.
+    /// Journal's name in the folder.
     name: String,
-    /// None before the first look, and once it was put away and all of it was told: nobody writes to it any more.
+    /// Journal as it is followed. None before the first poll, and once the journal is archived and all of it was
+    /// reported: no process writes to it any more.
     followed: Option<Followed>,
-    /// Part of its file that was read by then.
+    /// Part of the file that was read before the journal ceased to be followed.
     extent: Option<Extent>,
-    /// Mark that it isn't there any more, and that nothing of it is to be told.
+    /// Mark that the file isn't there any more, and that nothing more of it is to be reported.
     is_gone: bool,
 }
 
-/// The path of a name in a folder.
+/// Returns the path of a name in a folder.
 fn path_of(alloc: Global, folder: &str, name: &str) -> Result<String, Memory> {
     format!(in alloc; "{folder}/{name}")
 }
 
-/// Returns what stands before each line that is told of a name.
+/// Returns the text before each line that is written of the journal of a name.
 fn front_of(alloc: Global, name: &str) -> Result<String, Memory> {
     format!(in alloc; "{name} ")
 }
 
-/// The journal of a name, of which nothing was read yet. None where its file isn't there any more.
+/// Opens the journal of a name. Nothing of it is read yet. Returns None if the file isn't there any more.
 fn begin<R: AllocGlobal + Files<File = File>>(
     rt: &R,
     path: &str,
@@ -51,7 +52,7 @@ fn begin<R: AllocGlobal + Files<File = File>>(
 }
 
 impl Journal {
-    /// A journal that wasn't looked at yet.
+    /// Makes a journal that wasn't polled yet.
     fn new(alloc: Global, name: &str) -> Result<Journal, Memory> {
         Ok(Journal {
             name: String::from_str(alloc, name)?,
@@ -61,12 +62,12 @@ impl Journal {
         })
     }
 
-    /// Returns whether it was archived.
+    /// Returns whether the journal was archived.
     fn is_ended(&self) -> bool {
         self.name.starts_with(ENDED)
     }
 
-    /// Follows it from its beginning, if it isn't followed and its file isn't what was read of it.
+    /// Follows the journal from its beginning, if it isn't followed and its file isn't just what was read.
     fn wake<R: AllocGlobal + Files<File = File>>(
         &mut self,
         rt: &R,
@@ -83,8 +84,8 @@ impl Journal {
         Ok(())
     }
 
-    /// Returns what is seen of it where its name doesn't stand for its file any more: it may have been archived, or let
-    /// go of.
+    /// Returns the outcome of a poll after the journal's name ceased to stand for its file: the journal may have been
+    /// archived, or its file deleted.
     fn see_moved<R: AllocGlobal + Files<File = File>>(
         &mut self,
         rt: &R,
@@ -111,7 +112,8 @@ impl Journal {
         followed.look(rt)
     }
 
-    /// Looks at it, and tells what is seen: the program's status, where it ends by that.
+    /// Polls the journal at a path, and writes the outcome. Returns the program's status if the program ends by that
+    /// outcome.
     fn look_on<R: AllocGlobal + Files<File = File> + Eprint, W: Write>(
         &mut self,
         rt: &R,
@@ -138,7 +140,8 @@ impl Journal {
         Ok(status)
     }
 
-    /// The same. A fault is told of its path.
+    /// Polls the journal, and writes the outcome. Returns the program's status if the program ends by that outcome.
+    /// Writes a fault to standard error, with the journal's path.
     fn look<R: AllocGlobal + Files<File = File> + Eprint, W: Write>(
         &mut self,
         rt: &R,
@@ -154,7 +157,7 @@ impl Journal {
     }
 }
 
-/// The journals of a folder that are followed, in the order of their names.
+/// Journals of a folder that are followed, in the order of their names.
 #[derive(Drop)]
 pub struct Journals<'a> {
     alloc: Global,
@@ -163,7 +166,7 @@ pub struct Journals<'a> {
 }
 
 impl<'a> Journals<'a> {
-    /// No journal yet.
+    /// Makes a set of no journals yet.
     pub fn new(alloc: Global, folder: &'a str) -> Journals<'a> {
         Journals {
             alloc,
@@ -172,8 +175,7 @@ impl<'a> Journals<'a> {
         }
     }
 
-    /// Looks at those that were there at the look before, and lets go of those that were put away and aren't there any
-    /// more.
+    /// Polls the journals that were there at the last poll, and drops those whose files aren't there any more.
     fn look_at_known<R: AllocGlobal + Files<File = File> + Eprint, W: Write>(
         &mut self,
         rt: &R,
@@ -191,7 +193,7 @@ impl<'a> Journals<'a> {
         Ok(None)
     }
 
-    /// Begins with the journal of a name, if there is none yet, and looks at it.
+    /// Adds the journal of a name, if it is new, and polls it.
     fn add<R: AllocGlobal + Files<File = File> + Eprint, W: Write>(
         &mut self,
         rt: &R,
@@ -213,7 +215,8 @@ impl<'a> Journals<'a> {
         }
     }
 
-    /// One look at each of them, and at those of these names that are new: the program's status, where it ends by that.
+    /// Polls each journal, and those of these names that are new. Returns the program's status if the program ends by
+    /// an outcome.
     pub fn look<R: AllocGlobal + Files<File = File> + Eprint, W: Write>(
         &mut self,
         rt: &R,

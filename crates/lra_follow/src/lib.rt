@@ -1,4 +1,4 @@
-//! An audit of a journal, or of a folder's journals, that goes on as they grow.
+//! Audit of a journal, or of a folder's journals, that goes on as they grow.
 #![tactic(auto)]
 
 mod counts;

@@ -1,4 +1,4 @@
-//! A journal followed on a system.
+//! The program that follows one journal, and its end.
 
 use crate::followed::Followed;
 use lra_audits::{RunFault, settle};
@@ -12,43 +12,43 @@ use std::sync::{Arc, Wait};
 use std::thread::{Builder, Threads, sleep};
 use std::time::{Clock, Duration};
 
-/// Number of milliseconds that it waits from one look to the next.
+/// Number of milliseconds from one poll to the next.
 const PAUSE: u64 = 250;
 
-/// Number of bytes of what nobody needs that are read at once.
+/// Number of bytes of ignored input that are read at once.
 const IGNORED: usize = 256;
 
-/// Request that it ends.
+/// Request that the program ends.
 #[derive(Drop)]
 pub struct Stop {
     is_asked: AtomicBool,
 }
 
 impl Stop {
-    /// It is to go on.
+    /// Makes a request that isn't made yet: the program is to go on.
     pub fn new() -> Stop {
         Stop {
             is_asked: AtomicBool::new(false),
         }
     }
 
-    /// It is to end.
+    /// Requests the end.
     fn ask(&self) {
         self.is_asked.store(true, Ordering::SeqCst);
     }
 
-    /// Returns whether it is to end.
+    /// Returns whether the program is to end.
     pub fn is_asked(&self) -> bool {
         self.is_asked.load(Ordering::SeqCst)
     }
 }
 
-/// Waits from one look to the next.
+/// Sleeps from one poll to the next.
 pub fn pause<R: Clock>(rt: &R) {
     sleep(rt, Duration::from_millis(PAUSE));
 }
 
-/// Reads until nothing more comes.
+/// Reads an input to its end or an error, and ignores its bytes.
 fn read_out<I: Read>(input: &mut I) {
     let mut piece = [0u8; IGNORED];
     for _ in 0..u64::MAX {
@@ -61,8 +61,8 @@ fn read_out<I: Read>(input: &mut I) {
     }
 }
 
-/// Asks for the end once an input has ended. A thread of its own waits for that. It is left to itself, so that it holds
-/// nobody up.
+/// Starts a thread that reads an input to its end, and then requests the end of the program. The thread is never
+/// joined, so that no caller waits for it.
 pub fn watch_input<R: Threads, I: Read + Send + Drop + 'static>(
     rt: &R,
     stop: &Arc<Stop>,
@@ -86,7 +86,8 @@ pub fn watch_input<R: Threads, I: Read + Send + Drop + 'static>(
     }
 }
 
-/// Follows a journal until a line of it is at fault, its file is lost, or the end is asked for.
+/// Follows a journal until a line of it is at fault, its file is lost, or the end is requested. Returns the program's
+/// status.
 fn follow_to<R: AllocGlobal + Files<File = File> + Clock + Wait + Eprint, W: Write>(
     rt: &R,
     file: &str,
@@ -109,8 +110,8 @@ fn follow_to<R: AllocGlobal + Files<File = File> + Clock + Wait + Eprint, W: Wri
     Ok(0)
 }
 
-/// Follows a journal, and answers the program's status: 1 where a line of it is at fault, 2 where its file is lost or
-/// can't be read, and 0 where the end was asked for.
+/// Follows a journal. Returns the program's status: 1 if a line of it is at fault, 2 if its file is lost or can't be
+/// read, and 0 if the end was requested.
 pub fn follow<R: AllocGlobal + Files<File = File> + Clock + Wait + Print + Eprint>(
     rt: &R,
     file: &str,

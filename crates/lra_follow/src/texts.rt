@@ -1,19 +1,19 @@
-//! Texts that tell of a journal that is followed.
+//! Lines that report on a journal that is followed.
 
 use crate::counts::Counts;
 use lra_model::Memory;
 use std::alloc::Global;
 
-/// Why a journal can't be followed any more.
+/// Reason why a journal can't be followed any more.
 #[derive(Clone, Copy, Debug, PartialEq, Eq)]
 pub enum Lost {
-    /// It has fewer bytes than were read.
+    /// The file has fewer bytes than were read.
     Shrunk,
-    /// Its name stands for another file, or for none.
+    /// The name stands for another file, or for none.
     Replaced,
 }
 
-/// The line of a journal that has been sound so far.
+/// Returns the line that reports a journal that has been sound so far.
 pub fn sound_line(alloc: Global, counts: &Counts) -> Result<String, Memory> {
     let entries = counts.entries();
     let actions = counts.actions();
@@ -21,7 +21,7 @@ pub fn sound_line(alloc: Global, counts: &Counts) -> Result<String, Memory> {
     format!(in alloc; "sound so far: {entries} entries, {actions} actions, {unended} unended\n")
 }
 
-/// The line on standard error for a journal that is lost.
+/// Returns the line on standard error for a journal that is lost.
 pub fn lost_line(alloc: Global, file: &str, lost: Lost) -> Result<String, Memory> {
     match lost {
         Lost::Shrunk => format!(in alloc; "lra: {file} has become shorter\n"),

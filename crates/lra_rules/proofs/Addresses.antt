@@ -10,7 +10,7 @@ use Rattle.std.proofs.lemmas.List.{drop_more}
 use Rattle.lra_rules.specs.Networks.{is_mapped, octets_of, width_of, first_bits, agree}
 use Rattle.lra_rules.specs.inner.Octets.{own_octets, own_width}
 
--- ---- the IPv4 address that one is
+-- ---- IPv4-mapped addresses
 
 mapped : (segments : List ℕ) → IsIpv4Mapped segments → is_mapped segments ≡ true
 mapped segments h = (bytes_eq-Decides (take 6 segments) (0 ∷ 0 ∷ 0 ∷ 0 ∷ 0 ∷ 65535 ∷ [])).1 h
@@ -19,7 +19,7 @@ unmapped : (segments : List ℕ) → ¬ (IsIpv4Mapped segments) → is_mapped se
 unmapped segments h =
     false_from_ne_true _ (λ e. h ((bytes_eq-Decides (take 6 segments) (0 ∷ 0 ∷ 0 ∷ 0 ∷ 0 ∷ 65535 ∷ [])).0 e))
 
--- it is that one
+-- an address, or the IPv4 address in it if it is an IPv4-mapped one
 abbrev pub Canonical : IpAddr → IpAddr → Type 0
 Canonical ip other = MatchIp ip (λ _. other ≡ ip) (λ a. IsCanonicalOf a other)
 
@@ -50,7 +50,7 @@ agree_lengths bits (x ∷ xs) (y ∷ ys) h =
     let rest : agree (bits - 8) xs ys ≡ false = agree_lengths (bits - 8) xs ys (λ e. h (omega (arith, e))) in
     rw rest (and_false (first_bits bits x == first_bits bits y))
 
--- one octet more
+-- the comparison of one more octet
 pub agree_step : (bits : ℕ) (xs ys : List ℕ) (i : ℕ) → i < length xs → i < length ys
     → agree bits (drop i xs) (drop i ys) ≡ ((first_bits bits (get_or xs i 0) == first_bits bits (get_or ys i 0))
     && agree (bits - 8) (drop (i + 1) xs) (drop (i + 1) ys))

@@ -1,4 +1,4 @@
--- What stands round a byte, and what a reader reads whole.
+-- The parts of a text round a byte, and texts that a reader reads whole.
 use Rattle.std.proofs.Common.{◌≡◌, ◌≢◌, ℕ, ◌+◌, ◌-◌, ◌<◌, ◌≤◌, ◌==◌, true, false, not, List, [], ◌++◌, length, take}
 use Rattle.std.proofs.Common.{drop, get_or, All, Option, Some, None, refl, sym, ap, ◌∙◌, subst, ⊎_elim, eq-eqb, ne_eqb}
 use Rattle.std.proofs.Common.{arith}
@@ -12,7 +12,7 @@ use Rattle.std.proofs.lemmas.List.Sums.{suffix_len_is}
 use Rattle.std.proofs.lemmas.List.Elements.{All-weaker}
 use Rattle.lra_rules.specs.Texts.{at_last}
 
--- the last such byte stands at a place
+-- the byte's last occurrence is at a position
 pub at_last_some : (byte : ℕ) (xs : List ℕ) (i : ℕ) → i < length xs → get_or xs i 0 ≡ byte
     → ((k : ℕ) → i + 1 ≤ k → k < length xs → get_or xs k 0 ≢ byte)
     → at_last byte xs ≡ Some (take i xs, drop (i + 1) xs)
@@ -26,7 +26,7 @@ at_last_some byte xs i inside here after =
     let back : length xs - (length xs - (i + 1)) ≡ i + 1 = omega arith in
     rw (there, others, front, back) refl
 
--- there is none
+-- the byte doesn't occur
 pub at_last_none : (byte : ℕ) (xs : List ℕ) → All (λ b. b ≢ byte) xs → at_last byte xs ≡ None
 unfolding at_last
 at_last_none byte xs none =
@@ -59,6 +59,6 @@ module _ (read : List ℕ → Option (List ℕ × List ℕ)) (Spells : List ℕ 
       (λ more. rw more refl)
       (cases_Bool (length rest == 0))
 
-  -- one that spells none isn't
+  -- a text that spells no value isn't
   pub whole_none : (text : List ℕ) → ((value : List ℕ) → ¬ (Spells text value)) → whole_value (read text) ≡ None
   whole_none text never = none_by text (read text) refl never

@@ -1,4 +1,4 @@
--- Worked examples: texts that are rules, and what rules let.
+-- Worked examples: texts that are rules, and what rules allow.
 use Rattle.std.proofs.Common.{◌≡◌, ℕ, Bool, true, false, List, [], ◌∷◌, map, Err, refl}
 use Rattle.std.specs.Prelude.{⊤, Result, codes}
 use Rattle.std.specs.Result.{result_map_both}
@@ -10,7 +10,7 @@ use Rattle.lra_rules.specs.Networks.{ipv4, ipv6, bare_ip_of, ip_of, octets_of, w
 use Rattle.lra_rules.specs.Networks.{is_special}
 use Rattle.lra_rules.specs.Rules.{hosts_of, reading_of, lets, names, let_address, let_host}
 
--- what unfolds to compute these definitions
+-- the definitions that have to unfold for the examples to compute
 unfoldable pub rules_on_literals : ⊤
 unfolding read_number read_octet read_ipv4 read_segment read_segments read_ipv6 at_last number is_name bare_ip_of ip_of
     octets_of width_of inside holds network_of is_special hosts_of reading_of lets names let_address let_host
@@ -35,11 +35,11 @@ others = refl
 
 -- ---- hosts
 
--- what rules let of these hosts at a port
+-- those of these hosts that rules allow at a port
 each : List (List ℕ) → ℕ → List (List ℕ) → List Bool
 each rules port hosts = map (λ host. let_host rules host port) hosts
 
--- without a rule anything
+-- without a rule, every host is allowed
 none : each [] 80 (codes "127.0.0.1" ∷ codes "a" ∷ []) ≡ true ∷ true ∷ []
 unfolding each rules_on_literals
 none = refl
@@ -83,9 +83,9 @@ network_at_a_port : map (let_host (codes "[fd00::]/8:8080" ∷ codes "10.0.0.0/8
 unfolding rules_on_literals
 network_at_a_port = refl
 
--- ---- what names come to
+-- ---- addresses that names resolve to
 
--- what rules let of a name that comes to these addresses
+-- what rules allow of a name that resolves to these addresses
 each_of : List (List ℕ) → List (List ℕ) → List Bool
 each_of rules octets = map (λ o. let_address rules (codes "localhost") (ipv4 o) 80) octets
 

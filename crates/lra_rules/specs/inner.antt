@@ -1,3 +1,3 @@
--- Words that private functions and proofs alone use.
+-- Definitions that only private functions and proofs use.
 pub mod Octets
 pub mod Readings

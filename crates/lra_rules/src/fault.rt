@@ -1,4 +1,4 @@
-//! Why a text is no rule.
+//! Reasons why a text is no rule.
 
 use std::alloc::AllocError;
 use thiserror::Error;

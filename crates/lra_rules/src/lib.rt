@@ -1,4 +1,4 @@
-//! Rules for where members may be: hosts by name, addresses and networks, each at any port or at one.
+//! Rules that say where members may be: hosts by name, addresses and networks, each at any port or at one.
 #![tactic(auto)]
 
 mod fault;

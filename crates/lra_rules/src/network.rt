@@ -1,4 +1,4 @@
-//! Networks of IP addresses, and the addresses that are special.
+//! Networks of IP addresses, and the special addresses.
 
 ghost use Rattle.std.specs.Prelude.{◌≡◌, option_map};
 ghost use Rattle.std.specs.Net.Addr.{ipv4_octets, ipv6_segments};
@@ -9,7 +9,7 @@ ghost use Rattle.lra_rules.specs.inner.Octets.{own_octets, own_width};
 use crate::texts::{at_last, number};
 use std::net::{IpAddr, Ipv4Addr, Ipv6Addr};
 
-/// The addresses whose first bits are those of one.
+/// Network: all addresses whose first `bits` bits are those of `first`.
 #[derive(Clone, Copy, Debug, PartialEq, Eq)]
 pub(crate) struct Network {
     first: IpAddr,
@@ -34,7 +34,7 @@ fn ipv6_in(text: &[u8]) -> Option<Ipv6Addr>
     }
 }
 
-/// The address that a text without brackets writes.
+/// Reads an IP address from a text without brackets.
 #[tactic(auto, unfolding(crate::specs::Networks::bare_ip_of))]
 fn bare_ip_in(text: &[u8]) -> Option<IpAddr>
     ensures { result ≡ spec.bare_ip_of text.now }
@@ -48,7 +48,7 @@ fn bare_ip_in(text: &[u8]) -> Option<IpAddr>
     }
 }
 
-/// The address that a text writes, an IPv6 address between brackets or without.
+/// Reads an IP address from a text. An IPv6 address may stand between brackets.
 #[tactic(auto, unfolding(crate::specs::Networks::ip_of))]
 pub(crate) fn ip_in(text: &[u8]) -> Option<IpAddr>
     ensures { result ≡ spec.ip_of text.now }
@@ -62,7 +62,7 @@ pub(crate) fn ip_in(text: &[u8]) -> Option<IpAddr>
     }
 }
 
-/// An address, or the IPv4 address that it is where it is an IPv4-mapped one.
+/// Returns an address, or the IPv4 address in it if it is an IPv4-mapped one.
 fn canonical(ip: IpAddr) -> IpAddr
     ensures octets { spec.octets_of ip ≡ own_octets result }
     ensures width { spec.width_of ip ≡ own_width result }
@@ -70,7 +70,7 @@ fn canonical(ip: IpAddr) -> IpAddr
     ip.to_canonical()
 }
 
-/// Returns the IPv4 address of two segments.
+/// Returns the IPv4 address whose 32 bits are these two segments.
 fn ipv4_of(high: u16, low: u16) -> IpAddr
     ensures { result ≡ spec.ipv4 (spec.octets_in high low) }
 {
@@ -83,7 +83,7 @@ fn ipv4_of(high: u16, low: u16) -> IpAddr
     IpAddr::V4(Ipv4Addr::from_octets(octets))
 }
 
-/// Returns where what is sent to an IPv6 address of these segments arrives.
+/// Returns the address at which traffic to the IPv6 address of these segments arrives.
 fn inside_of(segments: [u16; 8]) -> IpAddr
     ensures { result ≡ spec.inside_of segments }
 {
@@ -96,7 +96,8 @@ fn inside_of(segments: [u16; 8]) -> IpAddr
     IpAddr::V6(Ipv6Addr::from_segments(segments))
 }
 
-/// Returns where what is sent to an address arrives: at the IPv4 address inside one of NAT64 or 6to4, and else there.
+/// Returns the address at which traffic to an address arrives: the IPv4 address inside an address of NAT64 or 6to4,
+/// else the address itself.
 #[tactic(auto, unfolding(crate::specs::Networks::inside))]
 pub(crate) fn inside(ip: IpAddr) -> IpAddr
     ensures { result ≡ spec.inside ip }
@@ -107,7 +108,7 @@ pub(crate) fn inside(ip: IpAddr) -> IpAddr
     }
 }
 
-/// Returns the number of bits that an address has.
+/// Returns the number of bits of an address. An IPv4-mapped one has 32.
 fn width_of(ip: IpAddr) -> u16
     ensures { result ≡ spec.width_of ip }
 {
@@ -117,7 +118,7 @@ fn width_of(ip: IpAddr) -> u16
     }
 }
 
-/// The network that a text writes: an address alone, or with `/` and how many of its bits count.
+/// Reads a network from a text: an address, or an address, `/` and the number of bits of the prefix.
 #[tactic(auto, unfolding(crate::specs::Networks::network_of))]
 pub(crate) fn network_in(text: &[u8]) -> Option<Network>
     ensures { result ≡ spec.network_of text.now }
@@ -138,14 +139,14 @@ pub(crate) fn network_in(text: &[u8]) -> Option<Network>
     }
 }
 
-/// The first bits of an octet, of so many that are left.
+/// Returns the first `bits` bits of an octet, or all of it if `bits` is above 8.
 fn first_bits(bits: u16, octet: u8) -> u32
     ensures { result ≡ spec.first_bits bits octet }
 {
     u32::from(octet) >> 8u16.saturating_sub(bits)
 }
 
-/// Returns whether two addresses have as many octets, and the same first bits.
+/// Returns whether two addresses have the same number of octets and the same first `bits` bits.
 fn agree(bits: u16, first: &[u8], other: &[u8]) -> bool
     ensures { result ≡ spec.agree bits first.now other.now }
 {
@@ -162,7 +163,7 @@ fn agree(bits: u16, first: &[u8], other: &[u8]) -> bool
     true
 }
 
-/// Returns whether an address has these first bits.
+/// Returns whether the first `bits` bits of an address are those of `first`.
 fn begins(bits: u16, first: &[u8], ip: IpAddr) -> bool
     ensures { result ≡ spec.agree bits first.now (spec.octets_of ip) }
 {
@@ -173,7 +174,7 @@ fn begins(bits: u16, first: &[u8], ip: IpAddr) -> bool
 }
 
 impl Network {
-    /// Returns whether an address is one of the network.
+    /// Returns whether the network has an address.
     #[tactic(auto, unfolding(crate::specs::Networks::holds))]
     pub(crate) fn holds(self, ip: IpAddr) -> bool
         ensures { result ≡ spec.holds self ip }
@@ -184,7 +185,7 @@ impl Network {
         }
     }
 
-    /// That of an IPv4 address.
+    /// Makes the network of the first `bits` bits of an IPv4 address.
     const fn of_v4(octets: [u8; 4], bits: u16) -> Network
         ensures { result ≡ spec.of_v4 octets bits }
     {
@@ -194,7 +195,7 @@ impl Network {
         }
     }
 
-    /// That of an IPv6 address.
+    /// Makes the network of the first `bits` bits of an IPv6 address.
     const fn of_v6(segments: [u16; 8], bits: u16) -> Network
         ensures { result ≡ spec.of_v6 segments bits }
     {
@@ -205,8 +206,8 @@ impl Network {
     }
 }
 
-/// Returns whether an address is one that a rule has to name: this machine's own, one of the link, or one at which a
-/// cloud tells its machines who they are.
+/// Returns whether an address is special, so that a rule has to name it: one of this machine, a link-local one, or one
+/// of a cloud's metadata service.
 #[tactic(auto, unfolding(crate::specs::Networks::is_special))]
 pub(crate) fn is_special(ip: IpAddr) -> bool
     ensures { result ≡ spec.is_special ip }

@@ -1,4 +1,4 @@
-//! The reading of a text that is a rule.
+//! The parser of rules.
 
 ghost use Rattle.std.specs.Prelude.{◌≡◌};
 ghost use Rattle.lra_rules.specs.Rules as spec;
@@ -10,25 +10,25 @@ use crate::texts::{at_last, is_name, number};
 use std::alloc::Global;
 use std::net::IpAddr;
 
-/// The hosts that a rule is for.
+/// Hosts that a rule is for.
 #[derive(Debug, Drop)]
 pub(crate) enum Hosts<N> {
-    /// All that have names, and all addresses but those that are special.
+    /// All hosts that have names, and all addresses that aren't special.
     Any,
-    /// That of this name; or where it begins with a point, those whose names end so.
+    /// The host of this name. If the name begins with a point, all hosts whose names end with it.
     Named(N),
     /// The addresses of a network.
     Within(Network),
 }
 
-/// The hosts that a rule is for, and its port, where it is for one alone.
+/// Parsed rule: the hosts that it is for, and its port. None is any port.
 #[derive(Debug, Drop)]
 pub(crate) struct Reading<N> {
     pub(crate) hosts: Hosts<N>,
     pub(crate) port: Option<u16>,
 }
 
-/// The hosts that a text without a port names. Names are in lower case then.
+/// Reads the hosts that a text without a port names. Names are turned into lower case.
 #[tactic(auto, unfolding(crate::specs::Rules::hosts_of))]
 fn hosts_in(alloc: Global, text: &[u8]) -> Result<Hosts<Vec<u8>>, RuleFault>
     ensures { Gives seen_hosts result (spec.hosts_of text.now) }
@@ -45,7 +45,7 @@ fn hosts_in(alloc: Global, text: &[u8]) -> Result<Hosts<Vec<u8>>, RuleFault>
     Ok(Hosts::Named(text.to_ascii_lowercase(alloc)?))
 }
 
-/// Reads two texts, of hosts and of a port.
+/// Reads a rule from two texts: that of its hosts and that of its port.
 fn with_port(alloc: Global, hosts: &[u8], port: &[u8]) -> Result<Reading<Vec<u8>>, RuleFault>
     ensures { Gives seen result (spec.with_port hosts.now port.now) }
 {
@@ -58,7 +58,7 @@ fn with_port(alloc: Global, hosts: &[u8], port: &[u8]) -> Result<Reading<Vec<u8>
     })
 }
 
-/// Reads a text that has no port.
+/// Reads a rule from a text that has no port.
 fn without_port(alloc: Global, text: &[u8]) -> Result<Reading<Vec<u8>>, RuleFault>
     ensures { Gives seen result (spec.without_port text.now) }
 {
@@ -68,7 +68,7 @@ fn without_port(alloc: Global, text: &[u8]) -> Result<Reading<Vec<u8>>, RuleFaul
     })
 }
 
-/// Reads the text of a rule.
+/// Reads a rule from its text.
 #[tactic(auto, unfolding(crate::specs::Rules::reading_of))]
 pub(crate) fn reading_of(alloc: Global, text: &[u8]) -> Result<Reading<Vec<u8>>, RuleFault>
     ensures { Gives seen result (spec.reading_of text.now) }
@@ -86,7 +86,7 @@ pub(crate) fn reading_of(alloc: Global, text: &[u8]) -> Result<Reading<Vec<u8>>,
 }
 
 impl Hosts<Vec<u8>> {
-    /// Returns whether a host is one of these by its name, or these are any.
+    /// Returns whether these are any hosts, or have a host by its name.
     pub(crate) fn has_host(&self, host: &[u8]) -> bool
         ensures { result ≡ spec.has_host (seen_hosts self.now) host.now }
     {
@@ -97,7 +97,7 @@ impl Hosts<Vec<u8>> {
         }
     }
 
-    /// Returns whether an address is one of a network of these.
+    /// Returns whether these are a network that has an address.
     pub(crate) fn has_address(&self, ip: IpAddr) -> bool
         ensures { result ≡ spec.has_address (seen_hosts self.now) ip }
     {
@@ -108,7 +108,7 @@ impl Hosts<Vec<u8>> {
     }
 }
 
-/// Returns whether a host has a name, or one that ends so.
+/// Returns whether a host has this name. If the name begins with a point, returns whether the host ends with it.
 fn is_named(name: &[u8], host: &[u8]) -> bool
     ensures { result ≡ spec.is_named name.now host.now }
 {

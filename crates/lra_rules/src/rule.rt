@@ -9,8 +9,8 @@ use std::alloc::Global;
 use std::marker::Model;
 use std::net::IpAddr;
 
-/// A text that says where members may be: `*`, a name, `.` and the end of names, an address or a network, with `:` and
-/// a port or for all ports. A contract sees the text.
+/// A rule that says where members may be: `*`, a name, `.` and the end of names, an address or a network. It is for one
+/// port if `:` and a port follow, else for all ports. A contract sees the text.
 #[derive(Debug, Drop)]
 pub struct Rule {
     text: String,
@@ -29,7 +29,7 @@ impl Model for Rule {
     ghost invariant = { λ r. reading_of (string_bytes r.text) ≡ Ok (seen r.reading) };
 }
 
-/// Returns whether a rule that is for this port, or for all, is for that one.
+/// Returns whether a rule with the port `own`, or with none, is for the port `port`.
 fn is_for(own: Option<u16>, port: u16) -> bool
     ensures { result ≡ spec.is_for own port }
 {
@@ -40,7 +40,7 @@ fn is_for(own: Option<u16>, port: u16) -> bool
 }
 
 impl Rule {
-    /// The rule that a text is.
+    /// Reads a rule from a text.
     pub fn read(alloc: Global, text: &str) -> Result<Rule, RuleFault>
         ensures ok { IfOk result (λ rule. rule ≡ text.now) }
         ensures rule { OnOk result (IsTrue (spec.is_rule text.now)) }
@@ -53,7 +53,7 @@ impl Rule {
         })
     }
 
-    /// The text.
+    /// Returns the text of the rule.
     pub fn as_str(&self) -> &str
         ensures value { result.now ≡ self.now }
         ensures rule { IsTrue (spec.is_rule self.now) }
@@ -62,7 +62,8 @@ impl Rule {
         self.text.as_str()
     }
 
-    /// Returns whether it lets a host at a port, at whatever address it comes to that isn't special.
+    /// Returns whether the rule allows a host at a port, at each address that the host resolves to and that isn't
+    /// special.
     #[tactic(auto, unfolding(crate::specs::Rules::lets))]
     pub(crate) fn lets(&self, host: &[u8], port: u16) -> bool
         ensures { result ≡ spec.lets host.now port self.now }
@@ -70,7 +71,7 @@ impl Rule {
         is_for(self.reading.port, port) && self.reading.hosts.has_host(host)
     }
 
-    /// Returns whether it names an address at a port.
+    /// Returns whether the rule names an address at a port, alone or within a network.
     #[tactic(auto, unfolding(crate::specs::Rules::names))]
     pub(crate) fn names(&self, ip: IpAddr, port: u16) -> bool
         ensures { result ≡ spec.names ip port self.now }

@@ -12,8 +12,8 @@ use std::alloc::Global;
 use std::marker::Model;
 use std::net::{IpAddr, SocketAddr};
 
-/// Where members may be: where one of these rules lets them, and anywhere where there is none. A contract sees their
-/// texts.
+/// Rules that say where members may be: wherever one of them allows, or anywhere if there is none. A contract sees the
+/// texts of the rules.
 #[derive(Debug, Drop)]
 pub struct Rules {
     rules: Vec<Rule>,
@@ -34,50 +34,51 @@ impl Rules {
         Rules { rules }
     }
 
-    /// No rule: members may be anywhere.
+    /// Makes rules without any rule, so that members may be anywhere.
     pub fn none(alloc: Global) -> Rules
         ensures { result ≡ [] }
     {
         Rules::new(Vec::new(alloc))
     }
 
-    /// Each of them.
+    /// Returns all the rules.
     pub fn as_slice(&self) -> &[Rule]
         ensures { result.now ≡ self.now }
     {
         self.rules.as_slice()
     }
 
-    /// Returns whether there is none.
+    /// Returns whether there is no rule.
     pub fn is_empty(&self) -> bool
         ensures { result ≡ (length self.now == 0) }
     {
         self.rules.as_slice().is_empty()
     }
 
-    /// Returns whether some rule lets a host at a port, at whatever address it comes to that isn't special.
+    /// Returns whether a rule allows a host at a port, at each address that the host resolves to and that isn't
+    /// special.
     fn some_lets(&self, host: &[u8], port: u16) -> bool
         ensures { result ≡ spec.some_lets self.now host.now port }
     {
         self.as_slice().iter().any(|rule| rule.lets(host, port))
     }
 
-    /// Returns whether some rule names an address at a port.
+    /// Returns whether a rule names an address at a port.
     fn some_names(&self, ip: IpAddr, port: u16) -> bool
         ensures { result ≡ spec.some_names self.now ip port }
     {
         self.as_slice().iter().any(|rule| rule.names(ip, port))
     }
 
-    /// Returns whether some rule lets a host or names an address, at a port.
+    /// Returns whether a rule allows a host at a port or names an address at that port.
     fn some_has(&self, host: &[u8], ip: IpAddr, port: u16) -> bool
         ensures { result ≡ spec.some_has self.now host.now ip port }
     {
         self.some_names(ip, port) || self.some_lets(host, port)
     }
 
-    /// Returns whether a host may be called at a port and an address that it comes to. An address that has an IPv4
-    /// address inside, to which what is sent there goes, is called only where that one may be.
+    /// Returns whether a host may be called at a port and an address that it resolves to. Without a rule it always may.
+    /// An address of NAT64 or 6to4 whose IPv4 address is special may be called only if a rule names that IPv4 address.
     #[tactic(auto, unfolding(crate::specs::Rules::let_address))]
     pub fn let_address(&self, host: &[u8], ip: IpAddr, port: u16) -> bool
         ensures { result ≡ spec.let_address self.now host.now ip port }
@@ -88,8 +89,8 @@ impl Rules {
             || (self.some_has(host, ip, port) && !is_special(there))
     }
 
-    /// Returns whether a host at a port may be a member's, as far as its text tells: one in numbers where its address
-    /// may be called.
+    /// Returns whether a host at a port may be a member's, as far as its text shows. If the text is an IP address, that
+    /// address has to be one that may be called.
     #[tactic(auto, unfolding(crate::specs::Rules::let_host))]
     pub fn let_host(&self, host: &[u8], port: u16) -> bool
         ensures { result ≡ spec.let_host self.now host.now port }
@@ -100,7 +101,7 @@ impl Rules {
         }
     }
 
-    /// Returns whether a host and port may be called at an address that they come to.
+    /// Returns whether a host and port may be called at a socket address that they resolve to.
     pub fn let_socket(&self, socket: &[u8], to: SocketAddr) -> bool
         ensures { result ≡ spec.let_address self.now (host_in socket.now) (socket_ip to) (socket_port to) }
     {

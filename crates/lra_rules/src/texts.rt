@@ -1,11 +1,11 @@
-//! Numbers, names, and what stands round a byte.
+//! Readers of numbers and names, and a split of texts at a byte.
 
 ghost use Rattle.std.specs.Prelude.{◌≡◌, option_map};
 ghost use Rattle.std.specs.List.{list_all};
 ghost use Rattle.std.specs.Char.{is_ascii_digit};
 ghost use Rattle.lra_rules.specs.Texts as spec;
 
-/// Returns what stands before the last such byte and behind it, where there is one.
+/// Splits a text at the last occurrence of a byte. Returns the parts before and after it, or None if there is none.
 pub(crate) fn at_last(text: &[u8], byte: u8) -> Option<(&[u8], &[u8])>
     ensures { option_map (λ parts. (parts.0.now, parts.1.now)) result ≡ spec.at_last byte text.now }
 {
@@ -15,7 +15,7 @@ pub(crate) fn at_last(text: &[u8], byte: u8) -> Option<(&[u8], &[u8])>
     }
 }
 
-/// The host in a host and port, or all of what has no colon.
+/// Returns the host of a host and port: the part before the last colon, or all of the text if it has no colon.
 pub fn host_in(socket: &[u8]) -> &[u8]
     ensures { result.now ≡ spec.host_in socket.now }
 {
@@ -25,7 +25,7 @@ pub fn host_in(socket: &[u8]) -> &[u8]
     }
 }
 
-/// Returns what stands behind the last point, or all of what has none.
+/// Returns the part after the last point, or all of the name if it has no point.
 fn last_label(name: &[u8]) -> &[u8]
     ensures { result.now ≡ spec.last_label name.now }
 {
@@ -35,7 +35,7 @@ fn last_label(name: &[u8]) -> &[u8]
     }
 }
 
-/// The number that a text of digits alone writes, where it is no more than that.
+/// Reads a decimal number from a text of digits alone. Returns None if it is above `most`.
 #[tactic(auto, unfolding(crate::specs::Texts::number))]
 pub(crate) fn number(text: &[u8], most: u16) -> Option<u16>
     ensures { result ≡ spec.number most text.now }
@@ -50,7 +50,8 @@ pub(crate) fn number(text: &[u8], most: u16) -> Option<u16>
     Some(value)
 }
 
-/// The number that a digit writes behind those of another.
+/// Returns the number `value` with one more digit at its end. Returns None if the byte is no digit, or the number is
+/// above `most`.
 fn next_number(value: u16, digit: u8, most: u16) -> Option<u16>
     ensures { result ≡ spec.next_number most value digit }
 {
@@ -82,7 +83,7 @@ fn has_digits_alone(text: &[u8]) -> bool
     text.iter().all(|byte| byte.is_ascii_digit())
 }
 
-/// Returns whether a text is a host's name: one that ends in a number is none.
+/// Returns whether a text is a host's name. A text whose last label is a number is none.
 #[tactic(auto, unfolding(crate::specs::Texts::is_name))]
 pub(crate) fn is_name(text: &[u8]) -> bool
     ensures { result ≡ spec.is_name text.now }

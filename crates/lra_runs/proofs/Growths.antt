@@ -1,4 +1,4 @@
--- What a call appends, by its answer.
+-- The entries that a call appends, by its answer.
 use Rattle.std.proofs.Common.{◌≡◌, cond, List, [], Option, Some, None, refl}
 use Rattle.std.specs.Prelude.{Ok, Err, is_some}
 use Rattle.std.specs.Option.{option_map_or}

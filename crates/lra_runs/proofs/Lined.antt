@@ -82,7 +82,7 @@ left_refused : (held : Holding) (r : Request) → left held r true ≡ held
 left_refused held (request.Reply ask outcome) = refl
 left_refused held _ = refl
 
--- a line was refused, since no errand is held of its ask
+-- a line was refused, since no errand is held for its ask
 pub refused_by : (p : Player) (l : RequestLine) (was now : Option (List ℕ)) → command_of (holding p.held) l.request
     ≡ None → Appends was now (answer_line (Err NotAsked)) → IsPlayedLine (stage_of p) l (stage_of p) true was now
 refused_by p l was now is written =

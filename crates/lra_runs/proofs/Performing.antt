@@ -1,4 +1,4 @@
--- What came of a call, by what the coordinator prepares.
+-- The outcome of a call, by what the coordinator prepares.
 use Rattle.std.proofs.Common.{◌≡◌, ℕ, ◌<◌, ◌^◌, arith, true, false, cond, List, [], ◌∷◌, ◌++◌, length, take, drop}
 use Rattle.std.proofs.Common.{Option, None, refl, sym, ap, subst, ◌∙◌, append_assoc}
 use Rattle.std.specs.Prelude.{All, codes, Result, Ok, Err}
@@ -40,7 +40,7 @@ marked_are : (v : Version) (es : List Entry) → All (HasLine v) es → flat_map
     ≡ marked_entries es
 marked_are v es h = ap (flat_map marked) (lines_of_entries v es h) ∙ flat_map-map marked line es
 
--- one line more is marked
+-- one more line is marked
 pub marked_more : (text out next rest front others : List ℕ) (n : ℕ) → flat_map marked (lines_of text) ≡ out
     ++ flat_map marked (lines_of rest) → lines_of rest ≡ take n rest ∷ lines_of (drop n rest) → front ≡ take n rest
     → others ≡ drop n rest → next ≡ (out ++ codes "+ ") ++ front → flat_map marked (lines_of text) ≡ next
@@ -55,7 +55,7 @@ pub marked_all : (text out rest : List ℕ) → flat_map marked (lines_of text) 
     → rest ≡ [] → out ≡ flat_map marked (lines_of text)
 marked_all text out rest h end = sym (h ∙ ap (λ (r : List ℕ). out ++ flat_map marked (lines_of r)) end ∙ append-nil out)
 
--- so are those of the last entries of a coordinator's history
+-- the lines of the last entries of a coordinator's history are marked
 pub marked_last : (d : Shape) (J : History) (es : List Entry) → IsCoordinator d → d.history ≡ J ++ es
     → flat_map marked (lines_of (flat_map line es)) ≡ marked_entries es
 marked_last d J es h grown =
@@ -65,7 +65,7 @@ marked_last d J es h grown =
     marked_are d.setting.version es (subst (All (HasLine d.setting.version)) (front_rest (J ++ es) J es refl)
     (All-drop (HasLine d.setting.version) (length J) (J ++ es) all))
 
--- ---- what came of a call
+-- ---- the outcome of a call
 
 no_errand : (r : Result Told Refusal) (e : Option Asking) (x : Refusal) → r ≡ Err x → cond (is_err r) None e ≡ None
 no_errand r e x h = ap (λ (y : Result Told Refusal). cond (is_err y) None e) h

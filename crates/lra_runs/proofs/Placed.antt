@@ -1,4 +1,4 @@
--- Where what a command borrows lies doesn't matter.
+-- The addresses in memory of what a command borrows don't matter.
 use Rattle.std.proofs.Common.{◌≡◌, ℕ, refl}
 use Rattle.lra_model.specs.History.{History}
 use Rattle.lra_commands.specs.declared.command.Command.TheVariants as command

@@ -64,7 +64,7 @@ refused_push s (k ∷ ls) l =
     ap (λ (b : Bool). first || b) (refused_push next ls l) ∙ or_assoc first (some_refused next ls)
     (is_err (line_answer (after_lines next ls) l))
 
--- ---- what a script doesn't begin with
+-- ---- lines with which a script doesn't begin
 
 pub none_torn : (s : Stage) (rest : List ℕ) → All (λ b. b ≢ 10) rest → BeginsWithNone s rest
 none_torn s rest h = λ l more has may same.
@@ -72,7 +72,7 @@ none_torn s rest h = λ l more has may same.
     ∙ append_assoc (join_with_byte 32 (words_of_request_line l)) (10 ∷ []) more in
     feed_in (join_with_byte 32 (words_of_request_line l)) more (subst (All (λ b. b ≢ 10)) whole h)
 
--- whatever line of a script bytes begin with, it is the first line of them
+-- if bytes begin with a line of a script, that is their first line
 first_is : (rest : List ℕ) (n : ℕ) (more : List ℕ) (l : RequestLine) → IsLine (take n rest) → IsRequestLine l → rest
     ≡ request_line l ++ more → take n rest ≡ request_line l
 first_is rest n more l is has same = line_front (take n rest) (drop n rest)
@@ -161,7 +161,7 @@ number_of : Result ℕ RunFault → ℕ
 number_of (Err (fault.Line n)) = n
 number_of _ = 0
 
--- the fault that names the next line, where more is to come of which no line can be played
+-- the fault names the next line, if more bytes follow and they don't begin with a line that can be played
 pub stops_here : (script : List ℕ) (before now : Option (List ℕ)) (p : Player) (b : Bool) (n m : ℕ) (rest : List ℕ)
     (r : Result ℕ RunFault) → IsPlayed script before now p b n rest → eqb (length rest) 0 ≡ false
     → BeginsWithNone (stage_of p) rest → r ≡ Err (fault.Line (n + 1)) → r ≡ Err (fault.Line m)
@@ -180,7 +180,7 @@ stops_here script before now p b n m rest r d some bad named is =
       written = d.written;
     }
 
--- a fault of writing is one of playing
+-- a fault of a write is a fault of the play
 output_is_play : (f : RunFault) → IsOfOutput f → IsOfPlay f
 output_is_play fault.Write h = tt
 output_is_play fault.Memory h = tt
@@ -189,7 +189,7 @@ output_is_play fault.TooLong h = absurd h
 output_is_play fault.Changed h = absurd h
 output_is_play (fault.Line n) h = absurd h
 
--- so is what comes of it
+-- so is the fault of a result that passes such a fault on
 pub play_fault : {X : Type 0} (r : Result X RunFault) (f : RunFault) → IsErrAnd r (λ g. g ≡ f) → IsOfOutput f
     → IfErr r IsOfPlay
 play_fault (Ok x) f h k = absurd h

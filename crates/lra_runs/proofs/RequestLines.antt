@@ -1,4 +1,4 @@
--- The lines of a script's requests, whole: what is spelled so is read, and what is read is spelled so.
+-- The parser of whole lines accepts just those lines that `request_line` spells.
 use Rattle.std.proofs.Common.{◌≡◌, ℕ, ◌<◌, ◌≤◌, ◌^◌, Bool, true, false, eqb, cond, List, [], ◌∷◌, ◌++◌, Option, Some}
 use Rattle.std.proofs.Common.{None, refl, sym, ap, subst, ◌∙◌, inl, inr, ◌⊎◌, arith}
 use Rattle.std.specs.Prelude.{◌==◌, ◌&&◌, not, nat_le, codes, option_map, IfSome}
@@ -156,7 +156,7 @@ pub lacks_feed : (l : RequestLine) → IsRequestLine l → Lacks 10 (join_with_b
 lacks_feed l h = lacks_from goes_on 10 (join_with_byte 32 (words_of_request_line l))
     (joined_goes_on (words_of_request_line l) (line_whole l h)) refl
 
--- ---- what is spelled so is read
+-- ---- lines that are spelled as the grammar says are read
 
 outcome_next : (o : Outcome) (rest : Words) → next_of (named outcome_name outcomes) (outcome_name o ∷ rest)
     ≡ Some (o, rest)
@@ -301,7 +301,7 @@ request_line_of-line l h =
       line_again l h,
     ) refl
 
--- ---- what is read is spelled so
+-- ---- lines that are read are spelled as the grammar says
 
 -- the other branch of a test
 chosen : {A : Type 0} (b : Bool) (x : A) (r : Option A) (y : A) → cond b (Some x) r ≡ Some y → ((b ≡ true) × (x ≡ y))
@@ -348,7 +348,7 @@ addresses_take ws x e =
     ∷ or_star y.0.forget ∷ or_star y.0.after ∷ y.1) × HaveScriptWords y.0) (same_Some made x f.2)
     (cc, record { compensate = s0.1; complete = s1.1; status = s2.1; forget = s3.1; after = s4.1 })
 
--- the words of a request stand before the rest
+-- the words of a request come before the rest
 abbrev Says : ℕ → Words → Request × Words → Type 0
 Says by ws x = (ws ≡ request_words x.0 ++ x.1) × HasFields by x.0
 
@@ -457,7 +457,7 @@ request_takes by ws x e =
     let s = fields_take by a.0.0 a.0.1 x a.2 in
     (named_takes request_name request_names ws a.0 a.1 ∙ s.0, s.1)
 
--- what is known of a line that was read, but for its being a text
+-- a line that was read is one that a script may have, but for its being UTF-8
 record HasParts (l : RequestLine) : Type 0 where
   by : l.by < 2 ^ 32
   moment : l.moment < 2 ^ 64
@@ -496,7 +496,7 @@ line_from_request_line_of bytes l h =
           ∙ ap (λ (x : List ℕ). x ++ 10 ∷ []) (u.1 ∙ joined),
     )
 
--- what a reader that gives just that line says
+-- a reader that returns just that line is correct
 pub request_found : (bytes : List ℕ) (r : Option RequestLine) → r ≡ request_line_of bytes
     → IfSome r (λ l. IsRequestLine l × (bytes ≡ request_line l))
 request_found bytes None e = tt

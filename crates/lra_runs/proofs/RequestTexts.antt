@@ -24,7 +24,7 @@ no_utf8 : (bytes : List ℕ) (b : Bool) → is_utf8 bytes ≡ b → (IsUtf8 byte
 no_utf8 bytes false e h = refl
 no_utf8 bytes true e h = absurd (h (IsUtf8-from_is_utf8 bytes e))
 
--- what a reading of the text gives
+-- a UTF-8 check of a line's body returns the line's text
 pub text_by : {E : Type 0} (V : E → Type 0) (bytes body : List ℕ) (r : Result (Bor (List ℕ)) E) → unended bytes
     ≡ Some body → ((x : E) → V x → IsUtf8 body → ⊥) → MatchResult r (λ s. (s.now ≡ body) × IsUtf8 body) V
     → option_copied (result_ok r) ≡ text_of bytes

@@ -1,4 +1,4 @@
--- What the program prints of a script that it plays.
+-- The output of the program that plays a script (this project's own format).
 use Rattle.std.specs.Prelude.{◌≡◌, ℕ, ◌+◌, ◌<◌, Bool, false, ◌||◌, List, [], ◌∷◌, ◌++◌, length, codes, Option, Result}
 use Rattle.std.specs.Prelude.{Ok, Err, cond}
 use Rattle.std.specs.Fmt.{decimal}
@@ -25,7 +25,7 @@ use Rattle.lra_audits.specs.Report.{joined, line_feed}
 use Rattle.lra_runs.specs.Script.{player, Stage, first_stage, call_of, line_answer, given_by, after_line, after_lines}
 use Rattle.lra_runs.specs.Script.{Begins, BeginsWithNone}
 
--- the words of what a command is told; of an ask its number alone, since its errand says the rest
+-- the words of an answer that isn't a refusal; those of an ask have its number alone, since its errand says the rest
 abbrev pub told_text : Told → List ℕ
 told_text (told.Clerk n) = codes "clerk " ++ decimal n
 told_text (told.Action n) = codes "action " ++ decimal n
@@ -45,7 +45,7 @@ told_text told.Restarted = codes "restarted"
 told_text told.Renewed = codes "renewed"
 told_text (told.MemberIs status) = codes "status " ++ member_status_name status
 
--- what a refusal says beside its name: the action's status, or what there is too much of
+-- the detail of a refusal: the action's status, or the resource that is full
 abbrev pub refusal_detail : Refusal → List ℕ
 refusal_detail (refusal.NotActive status) = codes " " ++ action_status_name status
 refusal_detail (refusal.Full resource) = codes " " ++ resource_name resource
@@ -67,7 +67,7 @@ abbrev pub answer_line : Result Told Refusal → List ℕ
 answer_line (Ok t) = told_text t ++ line_feed
 answer_line (Err r) = joined (codes "refused " ∷ refusal_name r ∷ refusal_detail r ∷ line_feed ∷ [])
 
--- the line of an errand: what is asked of whom, and where
+-- the line of an errand: the ask, the member, the kind and the address
 abbrev pub errand_line : Asking → List ℕ
 errand_line e = joined (codes "ask " ∷ decimal e.ask ∷ codes " " ∷ decimal e.member ∷ codes " " ∷ ask_kind_name e.kind
     ∷ codes " " ∷ e.address ∷ line_feed ∷ [])
@@ -80,30 +80,31 @@ marked text = codes "+ " ++ text
 abbrev pub marked_entries : List Entry → List ℕ
 marked_entries es = flat_map (λ (e : Entry). marked (line e)) es
 
--- what is printed of a call: the errand that it gives, else its answer; then each new line of the journal
+-- the output for a call: the line of the errand that it gives, else that of its answer; then each new line of the
+-- journal
 abbrev pub call_text : History → Call → List ℕ
 call_text J c = option_map_or errand_line (given_by J c) (answer_line (answer (terms_of player) J c))
     ++ marked_entries (growth (terms_of player) J c)
 
--- what is printed of a script's line: what is printed of its call; and where it makes none, its answer
+-- the output for a script's line: that for its call, or the line of its answer if it makes no call
 abbrev pub played_line : Stage → RequestLine → List ℕ
 played_line s l = option_map_or (call_text s.history) (call_of s l) (answer_line (line_answer s l))
 
--- what is printed of lines, one after another
+-- the output for lines, one after another
 abbrev pub played_lines : Stage → List RequestLine → List ℕ
 played_lines s [] = []
 played_lines s (l ∷ ls) = played_line s l ++ played_lines (after_line s l) ls
 
--- the journal's header, and what is printed of the lines
+-- the output for a script: the journal's header, and the output for its lines
 abbrev pub played : List RequestLine → List ℕ
 played ls = marked (header Two 7) ++ played_lines first_stage ls
 
--- whether a line is refused, of lines one after another
+-- a line is refused, of lines played one after another
 abbrev pub some_refused : Stage → List RequestLine → Bool
 some_refused s [] = false
 some_refused s (l ∷ ls) = is_err (line_answer s l) || some_refused (after_line s l) ls
 
--- 1 where a line was refused, else 0
+-- the program's status: 1 if a line was refused, else 0
 abbrev pub play_status : List RequestLine → ℕ
 play_status ls = cond (some_refused first_stage ls) 1 0
 
@@ -114,7 +115,7 @@ pub record Plays (input : List ℕ) (status : ℕ) (before after : Option (List 
   pub written : Appends before after (played lines)
   pub answered : status ≡ play_status lines
 
--- a script was played up to line `number`, counted from 1, which isn't a line that a script may have there
+-- a script was played up to line `number`, counted from 1, which can't be played there
 pub record PlaysUpToLine (input : List ℕ) (number : ℕ) (before after : Option (List ℕ)) : Type 0 where
   pub lines : List RequestLine
   pub rest : List ℕ

@@ -1,4 +1,4 @@
--- The lines of a script, whatever they ask for (this project's own format).
+-- The lines of a script (this project's own format).
 use Rattle.std.specs.Prelude.{◌≡◌, ℕ, ◌<◌, ◌^◌, ◌==◌, Bool, true, ◌&&◌, not, IsTrue, List, [], ◌∷◌, Option, IfSome}
 use Rattle.std.specs.Prelude.{codes, option_map}
 use Rattle.std.specs.Fmt.{decimal}
@@ -11,7 +11,7 @@ use Rattle.lra_runs.specs.declared.requests.Request.{Request}
 use Rattle.lra_runs.specs.declared.requests.Request.TheVariants as request
 use Rattle.lra_runs.specs.declared.requests.RequestLine.{RequestLine}
 
--- the word of a request, and its fields in their order; numbers, names and absent fields are spelled as in the journal
+-- the word of a request and its fields, in order; numbers, names and absent fields are spelled as in the journal
 abbrev pub request_words : Request → List (List ℕ)
 request_words request.Enrol = codes "enrol" ∷ []
 request_words (request.Start parent limit) = codes "start" ∷ or_star (option_map decimal parent) ∷ decimal limit ∷ []
@@ -38,8 +38,8 @@ words_of_request_line l = decimal l.by ∷ decimal l.moment ∷ request_words l.
 abbrev pub request_line : RequestLine → List ℕ
 request_line l = line_of (words_of_request_line l)
 
--- a word that can be an address: it has no space and no line feed, and isn't the `*` of an absent one; whether it is an
--- address, the coordinator tells
+-- a word that can be an address: it has no space and no line feed, and isn't the `*` of an absent one; the coordinator
+-- decides whether it is an address
 abbrev pub is_script_address : List ℕ → Bool
 is_script_address word = list_all (λ b. not (b == 32) && not (b == 10)) word && not (bytes_eq word (codes "*"))
 
@@ -55,8 +55,7 @@ pub record HaveScriptWords (uris : Addresses) : Type 0 where
   pub forget : HasScriptWord uris.forget
   pub after : HasScriptWord uris.after
 
--- the fields of a request that a clerk makes are such as a line can have: who enrols has no number yet, which is
--- written 0
+-- a line can have the fields of a request that a clerk makes; a clerk that enrols has no number yet, which is written 0
 abbrev pub HasFields : ℕ → Request → Type 0
 HasFields by request.Enrol = by ≡ 0
 HasFields by (request.Start parent limit) = IfSome parent (λ p. p < 2 ^ 64) × (limit < 2 ^ 64)
@@ -73,7 +72,7 @@ HasFields by (request.Renew action limit) = (action < 2 ^ 64) × (limit < 2 ^ 64
 HasFields by (request.Status action) = action < 2 ^ 64
 HasFields by (request.Member member) = member < 2 ^ 64
 
--- a line that a script may have: its numbers are such as the journal has, and it is a text
+-- a line that a script may have: its numbers are in the ranges of the journal's, and it is UTF-8
 pub record IsRequestLine (l : RequestLine) : Type 0 where
   pub by : l.by < 2 ^ 32
   pub moment : l.moment < 2 ^ 64

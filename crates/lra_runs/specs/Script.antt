@@ -1,4 +1,4 @@
--- What the lines of a script ask of a coordinator, one after another (this project's own format).
+-- The calls that the lines of a script make to a coordinator, one after another (this project's own format).
 use Rattle.std.specs.Prelude.{◌≡◌, ℕ, ◌==◌, Bool, true, false, IsTrue, List, [], ◌∷◌, ◌++◌, All, codes, Option, Some}
 use Rattle.std.specs.Prelude.{None, if◌then◌else◌, option_map, Result, Err}
 use Rattle.std.specs.Borrow.{Bor}
@@ -23,7 +23,7 @@ use Rattle.lra_runs.specs.declared.requests.Request.TheVariants as request
 use Rattle.lra_runs.specs.declared.requests.RequestLine.{RequestLine}
 use Rattle.lra_runs.specs.Requests.{request_line, IsRequestLine}
 
--- what the player's coordinator is made with: a journal of version 2 and of instance 7, and the usual limits
+-- the setting of the player's coordinator: a journal of version 2 and of instance 7, and the usual limits
 abbrev pub player : Setting
 player = record { version = Two; instance = 7; base = codes "http://127.0.0.1:8080/"; limits = usual }
 
@@ -31,21 +31,21 @@ player = record { version = Two; instance = 7; base = codes "http://127.0.0.1:80
 abbrev pub Holding : Type 0
 Holding = ℕ → Option Asking
 
--- between two lines: the coordinator's history, and the errands that are held
+-- the state between two lines: the coordinator's history, and the errands that are held
 pub record Stage : Type 0 where
   pub history : History
   pub held : Holding
 
--- before the first line nothing was written, and no errand is held
+-- the state before the first line: the history is empty, and no errand is held
 abbrev pub first_stage : Stage
 first_stage = record { history = []; held = λ ask. None }
 
--- a value as a command borrows it: where it lies says nothing
+-- a value as a command borrows it; its address in memory doesn't matter
 abbrev pub lent : {X : Type 0} → X → Bor X
 lent x = record { ref_ptr = (0, 0); now = x }
 
--- the command that a request is; a reply records what came of the errand that is held of its ask, and where none is
--- held, it is no command
+-- the command of a request; a reply records the outcome of the errand that is held for its ask, and is no command if
+-- none is held
 abbrev pub command_of : Holding → Request → Option Command
 command_of held request.Enrol = Some command.Enrol
 command_of held (request.Start parent limit) = Some (command.Start parent limit)
@@ -67,11 +67,11 @@ abbrev pub call_of : Stage → RequestLine → Option Call
 call_of s l = option_map (λ (c : Command). record { by = l.by; moment = l.moment; command = c })
     (command_of s.held l.request)
 
--- whether a line can be played: an outcome that it records is one that its ask may have
+-- a line can be played: if it records an outcome, its ask may have that outcome
 abbrev pub is_playable : Stage → RequestLine → Bool
 is_playable s l = option_map_or is_suited (command_of s.held l.request) true
 
--- the answer to a line: that to its call; what came of an errand that isn't held can't be recorded
+-- the answer to a line: that to its call; a reply is refused if its errand isn't held
 abbrev pub line_answer : Stage → RequestLine → Result Told Refusal
 line_answer s l = option_map_or (answer (terms_of player) s.history) (call_of s l) (Err NotAsked)
 
@@ -83,29 +83,30 @@ given_by J c = if is_err (answer (terms_of player) J c) then None else errand_of
 abbrev pub line_errand : Stage → RequestLine → Option Asking
 line_errand s l = option_and_then (given_by s.history) (call_of s l)
 
--- what is held once a request was answered: an errand is let go where it was recorded, which a refusal doesn't do
+-- the errands that are held after a request was answered: without the one whose outcome was recorded; a refusal records
+-- none
 abbrev pub left : Holding → Request → Bool → Holding
 left held (request.Reply ask outcome) false = λ n. if ask == n then None else held n
 left held _ is_refused = held
 
--- what is held once an errand was given, by the number of its ask
+-- the errands that are held after an errand was given
 abbrev pub with_given : Holding → Option Asking → Holding
 with_given held None = held
 with_given held (Some errand) = λ n. if errand.ask == n then Some errand else held n
 
--- what there is after a line
+-- the state after a line
 abbrev pub after_line : Stage → RequestLine → Stage
 after_line s l = record {
   history = option_map_or (after_call (terms_of player) s.history) (call_of s l) s.history;
   held = with_given (left s.held l.request (is_err (line_answer s l))) (line_errand s l);
 }
 
--- what there is after lines, one after another
+-- the state after lines, one after another
 abbrev pub after_lines : Stage → List RequestLine → Stage
 after_lines s [] = s
 after_lines s (l ∷ ls) = after_lines (after_line s l) ls
 
--- each of these lines can be played where it stands
+-- each of these lines can be played at its position
 abbrev pub ArePlayable : Stage → List RequestLine → Type 0
 ArePlayable s [] = Unit {0}
 ArePlayable s (l ∷ ls) = IsTrue (is_playable s l) × ArePlayable (after_line s l) ls

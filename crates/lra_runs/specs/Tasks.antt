@@ -1,4 +1,4 @@
--- What all the words of a command line may ask for.
+-- The tasks that a command line may request (this project's choice).
 use Rattle.std.specs.Prelude.{◌≡◌, ℕ, ◌≤◌, List, [], ◌∷◌, codes}
 use Rattle.std.specs.Fmt.{decimal}
 use Rattle.lra_reports.specs.Words.{IsQuestion}

@@ -1,4 +1,4 @@
--- The words that private functions and proofs alone use: no public contract stands on them.
+-- Definitions that only private functions and proofs use. No public contract depends on them.
 pub mod Causes
 pub mod Details
 pub mod Players

@@ -1,4 +1,4 @@
-//! Printed form of an answer.
+//! Printed form of answers, errands and refusals.
 
 ghost use Rattle.std.specs.Prelude.{◌≡◌, ◌++◌, ◌∷◌, [], IfOk, Ok, Err, codes, string_bytes};
 ghost use Rattle.std.specs.Fmt.{decimal};
@@ -10,7 +10,7 @@ ghost use Rattle.lra_runs.specs.inner.Details.{detail_text};
 use lra_core::{Block, Memory, Refusal, Request, Told};
 use std::alloc::Global;
 
-/// A line of a word and a number.
+/// Returns the line of a word and a number.
 fn line_of_number(alloc: Global, word: &str, number: u64) -> Result<String, Memory>
     ensures { IfOk result (λ text. string_bytes text
         ≡ joined (word.now ∷ codes " " ∷ decimal number ∷ line_feed ∷ [])) }
@@ -18,14 +18,14 @@ fn line_of_number(alloc: Global, word: &str, number: u64) -> Result<String, Memo
     format!(in alloc; "{word} {number}\n")
 }
 
-/// A line of two words.
+/// Returns the line of two words.
 fn line_of_words(alloc: Global, word: &str, other: &str) -> Result<String, Memory>
     ensures { IfOk result (λ text. string_bytes text ≡ joined (word.now ∷ codes " " ∷ other.now ∷ line_feed ∷ [])) }
 {
     format!(in alloc; "{word} {other}\n")
 }
 
-/// The line of what a command is told.
+/// Returns the line of an answer that isn't a refusal.
 pub(crate) fn line_of_told(alloc: Global, told: Told) -> Result<String, Memory>
     ensures { IfOk result (λ text. string_bytes text ≡ told_text told ++ line_feed) }
 {
@@ -50,7 +50,7 @@ pub(crate) fn line_of_told(alloc: Global, told: Told) -> Result<String, Memory>
     }
 }
 
-/// The line of what a member is asked.
+/// Returns the line of an errand: the ask, the member, the kind and the address.
 fn line_of_request(alloc: Global, request: &Request) -> Result<String, Memory>
     ensures { IfOk result (λ text. string_bytes text ≡ errand_line request.now) }
 {
@@ -61,7 +61,7 @@ fn line_of_request(alloc: Global, request: &Request) -> Result<String, Memory>
     format!(in alloc; "ask {ask} {member} {kind} {address}\n")
 }
 
-/// The line of a block: of what it asks a member, else of what is told.
+/// Returns the line of a block: that of its errand, or that of its answer if it has no errand.
 pub(crate) fn line_of_block(alloc: Global, block: &Block) -> Result<String, Memory>
     ensures { IfOk result (λ text. string_bytes text ≡ option_map_or errand_line block.now.errand
         (answer_line (Ok block.now.told))) }
@@ -72,7 +72,8 @@ pub(crate) fn line_of_block(alloc: Global, block: &Block) -> Result<String, Memo
     }
 }
 
-/// Returns what a refusal says beside its name: the action's status, or what there is too much of.
+/// Returns the detail of a refusal: the action's status, or the resource that is full. Returns None if it has no
+/// detail.
 fn detail(refusal: Refusal) -> Option<&'static str>
     ensures { detail_text (option_copied result) ≡ refusal_detail refusal }
 {
@@ -94,7 +95,7 @@ fn detail(refusal: Refusal) -> Option<&'static str>
     }
 }
 
-/// The line of a refusal.
+/// Returns the line of a refusal.
 pub(crate) fn line_of_refusal(alloc: Global, refusal: Refusal) -> Result<String, Memory>
     ensures { IfOk result (λ text. string_bytes text ≡ answer_line (Err refusal)) }
 {

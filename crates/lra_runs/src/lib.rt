@@ -1,5 +1,5 @@
-//! Scripts of commands, played on a coordinator over any reader and writer; and all that the words of the command line
-//! of `lra` ask for.
+//! Scripts of commands, played on a coordinator over any reader and writer, and the parser of the command line of
+//! `lra`.
 #![tactic(auto)]
 
 mod answers;

@@ -1,4 +1,4 @@
-//! All that the words of the command line of `lra` may ask for: a report, a script to be played, or a service.
+//! Tasks that the command line of `lra` may request: a report, the play of a script, or a service.
 
 ghost use Rattle.std.specs.Prelude.{◌≡◌, ◌∷◌, [], ℕ, ◌≤◌, List, IfOk, IfErr, IfSome, IfNone, codes};
 ghost use Rattle.std.specs.Fmt.{decimal};
@@ -16,14 +16,14 @@ const MOST_WORKERS: u32 = 16;
 /// Task that the program `lra` is asked to do.
 #[derive(Clone, Copy, Debug)]
 pub enum Task<'a> {
-    /// Answer what a program that reads and reports is asked.
+    /// Question to a program that reads and reports.
     Question(Question<'a>),
-    /// Play a script.
+    /// Play of a script.
     Play {
         script: &'a str,
     },
-    /// Serve the coordinator of a file's journal at an address, by so many threads that answer and as many that carry
-    /// errands.
+    /// Service of the coordinator of a file's journal at an address, with this number of workers and as many callback
+    /// workers.
     Serve {
         address: &'a str,
         file: &'a str,
@@ -31,7 +31,7 @@ pub enum Task<'a> {
     },
 }
 
-/// The number from 1 to 16 that a text spells.
+/// Reads a number from 1 to 16.
 fn workers_in(text: &str) -> Option<u32>
     ensures some { IfSome result (λ n. (1 ≤ n) × (n ≤ 16) × (text.now ≡ decimal n)) }
     ensures none { IfNone result ((n : ℕ) → 1 ≤ n → n ≤ 16 → text.now ≡ decimal n → ⊥) }
@@ -44,7 +44,7 @@ fn workers_in(text: &str) -> Option<u32>
     None
 }
 
-/// The service that a verb and three words ask for.
+/// Reads the service that a verb and three words request.
 fn service_of<'a>(
     verb: &str,
     address: &'a str,
@@ -65,7 +65,7 @@ fn service_of<'a>(
     }
 }
 
-/// The script that words ask to be played, if they do.
+/// Returns the script that words request to play, if they do.
 fn script_of(words: &[String]) -> Option<&str>
     ensures some { IfSome result (λ script. texts words.now ≡ codes "play" ∷ script.now ∷ []) }
     ensures none { IfNone result ((script : List ℕ) → texts words.now ≡ codes "play" ∷ script ∷ [] → ⊥) }
@@ -76,7 +76,7 @@ fn script_of(words: &[String]) -> Option<&str>
     }
 }
 
-/// Reads what these words ask for, without the program's own name.
+/// Reads the task that these words request. They don't include the program's own name.
 pub fn read_task(words: &[String]) -> Result<Task<'_>, Usage>
     ensures task { IfOk result (IsTask (texts words.now)) }
     ensures usage { IfErr result (λ _. (task : Task) → IsTask (texts words.now) task → ⊥) }

@@ -1,4 +1,4 @@
--- The calls of actions' members, kept while a journal is read.
+-- The calls of actions' members, gathered while a journal is read.
 use Rattle.std.proofs.Common.{◌≡◌, ℕ, ◌+◌, ◌==◌, zero, suc, Bool, true, false, cond, List, [], ◌∷◌, ◌++◌, length}
 use Rattle.std.proofs.Common.{Option, Some, None, refl, sym, ap, ◌∙◌, inl, inr}
 use Rattle.std.specs.Prelude.{IfSome, filter, slice_get, slice_set, option_map, unwrap_or}
@@ -35,13 +35,13 @@ use Rattle.lra_stories.specs.inner.Called.{is_call, tells_call, calls, of_answer
 use Rattle.lra_stories.specs.inner.Called.{kept_at, kept_more, told_call, Keeps, Called}
 use Rattle.lra_stories.proofs.Hearing.{told_none, told_push}
 
--- ---- what is kept of one entry
+-- ---- the calls of one entry
 
--- the calls among what is told of one entry
+-- the calls among the timeline items of one entry
 abbrev told_calls : ℕ → ℕ → ActionStatus → Option Fact → List Told
 told_calls line moment s o = filter tells_call (told_of line moment s o)
 
--- no call is kept of another fact
+-- an item that is no call adds none
 quiet : (line moment : ℕ) (s : ActionStatus) (b : Bool) (f : Fact) → is_call f ≡ false
     → told_calls line moment s (when b f) ≡ []
 quiet line moment s true f other =
@@ -53,7 +53,7 @@ quiet_either : (line moment : ℕ) (s : ActionStatus) (b c : Bool) (f g : Fact) 
 quiet_either line moment s true c f g other neither = quiet line moment s true f other
 quiet_either line moment s false c f g other neither = quiet line moment s c g neither
 
--- what a report is to an action
+-- the item of a report for an action
 abbrev reported : ℕ → ℕ → Outcome → MemberRow → Option Fact
 reported a p o r = when (r.action == a) (fact.Reported p (stage_reported r.status) o)
 
@@ -63,7 +63,7 @@ quiet_report line moment s a p o None = refl
 quiet_report line moment s a p o (Some r) =
     quiet line moment s (r.action == a) (fact.Reported p (stage_reported r.status) o) refl
 
--- a call is kept of the member's action alone
+-- a call is added to the member's action alone
 one_call : (K : History) (line moment a : ℕ) (f : Fact) (o : Option MemberRow) → is_call f ≡ true
     → told_calls line moment (status_now K a) (when (option_map_or (λ (r : MemberRow). r.action == a) o false) f)
     ≡ told_call K line moment (option_map (λ (r : MemberRow). record { action = r.action; fact = f }) o) a
@@ -82,11 +82,11 @@ one_call K line moment a f (Some r) so = elim (eqb_tells r.action a) [
     tells : ℕ → Told
     tells n = record { line = line; moment = moment; status = status_now K n; fact = f }
 
--- what an answer is to the ask of a number
+-- the item of an answer to the ask of a number
 abbrev answered : ℕ → Outcome → AskRow → Fact
 answered n o x = fact.Answered n x.member (stage_of x.kind x.direction) o
 
--- an answer is kept where the member is asked again after it
+-- an answer is added just if the member is asked again after it
 one_answer : (J K : History) (line moment a n : ℕ) (o : Outcome) (x : Option AskRow)
     → told_calls line moment (status_now K a)
     (option_and_then (λ (y : AskRow). when (is_member_of J a y.member) (answered n o y)) x)
@@ -135,13 +135,13 @@ one_entry J K line a by moment deed.Restart =
 one_entry J K line a by moment (deed.Renew b limit) =
     quiet line moment (status_now K a) (b == a) (fact.Renewed limit) refl
 
--- ---- what is kept of a history
+-- ---- the calls of a history
 
 -- the calls of no entries
 pub calls_none : (a : ℕ) → calls a [] ≡ []
 calls_none a = ap (filter tells_call) (told_none a)
 
--- the calls with one entry more
+-- the calls with one more entry
 calls_push : (a : ℕ) (J : History) (e : Entry)
     → calls a (J ++ e ∷ []) ≡ calls a J ++ told_call (J ++ e ∷ []) (length J + 2) e.moment (call_in J e) a
 calls_push a J e =
@@ -149,7 +149,7 @@ calls_push a J e =
     ∙ filter-append tells_call (told a J) (told_of (length J + 2) e.moment (status_now (J ++ e ∷ []) a) (fact_in a J e))
     ∙ ap (λ (ts : List Told). calls a J ++ ts) (one_entry J (J ++ e ∷ []) (length J + 2) a e.by e.moment e.deed)
 
--- what is kept with one entry more
+-- the rows of calls with one more entry
 pub kept_on : (J : History) (e d : Entry) (before after : List (List Told)) (line : ℕ) (call : Option Call) → d ≡ e
     → ((a : ℕ) → kept_at before a ≡ calls a J) → line ≡ length J + 2 → call ≡ call_in J d
     → ((a : ℕ) → kept_at after a ≡ kept_at before a ++ told_call (J ++ d ∷ []) line d.moment call a)
@@ -162,11 +162,11 @@ kept_on J e d before after line call same had at is more a =
     ∙ sym (calls_push a J d)
     ∙ ap (λ (x : Entry). calls a (J ++ x ∷ [])) same
 
--- nothing is kept of no entries
+-- no entries have no rows of calls
 pub kept_none : (a : ℕ) → kept_at [] a ≡ calls a []
 kept_none a = sym (calls_none a)
 
--- what is told of a call, and of none
+-- the items that a call adds, or no call
 pub call_told : (J : History) (line moment : ℕ) (o : Option Call) (c : Call) (s : ActionStatus) (a : ℕ)
     (kept : List Told) → o ≡ Some c → s ≡ status_now J c.action
     → kept ++ kept_more c.action (record { line = line; moment = moment; status = s; fact = c.fact }) a
@@ -183,7 +183,7 @@ pub none_told : (J : History) (line moment : ℕ) (o : Option Call) (a : ℕ) (k
 none_told J line moment o a kept is =
     sym (ap (λ (x : Option Call). kept ++ told_call J line moment x a) is ∙ append-nil kept)
 
--- what is kept of a history is kept of the same one, which is legal
+-- the calls of a history are those of the same history, which is legal
 pub all_called : (o : Option Calls) (v : Version) (J K : History) → is_legal v is_address J ≡ true → K ≡ J
     → IfSome o (λ c. Keeps c K) → IfSome o (λ c. Called c J)
 all_called None v J K legal same keeps = tt
@@ -192,9 +192,9 @@ all_called (Some c) v J K legal same keeps = record {
   told = λ a. keeps.told a ∙ ap (calls a) same;
 }
 
--- ---- rows of what is kept
+-- ---- rows of calls
 
--- an empty row more keeps nothing
+-- one more empty row adds no call
 pub empty_more : (before after : List (List Told)) (row : List Told) (a : ℕ) → row ≡ [] → after ≡ before ++ row ∷ []
     → kept_at after a ≡ kept_at before a
 empty_more before after row a none more =
@@ -222,7 +222,7 @@ set_elsewhere (y ∷ rows) zero (suc j) n apart = refl
 set_elsewhere (y ∷ rows) (suc k) zero n apart = refl
 set_elsewhere (y ∷ rows) (suc k) (suc j) n apart = set_elsewhere rows k j n (λ e. apart (ap suc e))
 
--- one more that is told of an action
+-- one more item in an action's row
 pub kept_pushed : (rows : List (List Told)) (k : ℕ) (x n : List Told) (t : Told)
     → slice_get rows k ≡ Some x → n ≡ x ++ t ∷ []
     → (a : ℕ) → kept_at (slice_set rows k n) a ≡ kept_at rows a ++ kept_more k t a

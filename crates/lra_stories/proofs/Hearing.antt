@@ -1,4 +1,4 @@
--- How a story goes on with what it hears.
+-- The growth of a timeline with each entry.
 use Rattle.std.proofs.Common.{◌≡◌, ℕ, ◌+◌, ◌<◌, true, List, [], ◌∷◌, ◌++◌, length, Option, None, refl, sym, ap, ◌∙◌}
 use Rattle.std.proofs.Common.{arith, length-append}
 use Rattle.std.specs.Prelude.{codes, ⊤}
@@ -26,7 +26,7 @@ use Rattle.lra_stories.specs.declared.facts.Fact.{Fact}
 use Rattle.lra_stories.specs.declared.facts.Told.{Told}
 use Rattle.lra_stories.specs.Facts.{fact_in, status_now, told_of, told_at, told}
 
--- rows of what was heard stand for it
+-- the rows of the entries so far stand for them
 pub heard_stands : (h : Heard) (s : Sheet) (e : Entry) → s ≡ sheet_of h.entries
     → is_legal h.version is_address (h.entries ++ e ∷ []) ≡ true → StandsFor s h.entries
 heard_stands h s e k l = record {
@@ -37,7 +37,7 @@ heard_stands h s e k l = record {
   sheet = k;
 }
 
--- what is heard next is allowed
+-- the next entry is allowed
 pub heard_allows : (h : Heard) (e d : Entry) → is_legal h.version is_address (h.entries ++ e ∷ []) ≡ true → d ≡ e
     → allows h.version is_address h.entries d ≡ true
 heard_allows h e d l same = ap (λ (x : Entry). allows h.version is_address h.entries x) same
@@ -57,7 +57,7 @@ heard_follows h s e d k l same = record {
   allowed = heard_allows h e d l same;
 }
 
--- the rows with one more entry stand for what was heard
+-- the rows with one more entry stand for the entries with it
 pub stands_on : (h : Heard) (s t : Sheet) (e d : Entry) → s ≡ sheet_of h.entries
     → is_legal h.version is_address (h.entries ++ e ∷ []) ≡ true → d ≡ e
     → ((J : History) (k : StandsFor s J) → allows k.version k.is_address J d ≡ true → StandsFor t (J ++ d ∷ []))
@@ -71,18 +71,18 @@ stands_on h s t e d k l same next =
       sheet = k;
     }) (heard_allows h e d l same)
 
--- nothing is told of no entries
+-- no entries have no timeline items
 pub told_none : (a : ℕ) → told a [] ≡ []
 unfolding told steps
 told_none a = refl
 
--- one more entry is told of
+-- one more entry adds its item to a timeline
 pub told_push : (a : ℕ) (J : History) (e : Entry) → told a (J ++ e ∷ []) ≡ told a J
     ++ told_of (length J + 2) e.moment (status_now (J ++ e ∷ []) a) (fact_in a J e)
 unfolding told
 told_push a J e = ap (flat_map (told_at a)) (steps_push J e) ∙ sym (flat_map_more (told_at a) [] (steps J) (step J e))
 
--- what is told with one more entry
+-- the timeline with one more entry
 pub told_on : (a : ℕ) (J : History) (e d : Entry) (before after : List Told) (line : ℕ) (status : ActionStatus)
     (fact : Option Fact) → d ≡ e → before ≡ told a J
     → line ≡ length J + 2 → status ≡ status_now (J ++ d ∷ []) a → fact ≡ fact_in a J d → after ≡ before
@@ -127,6 +127,6 @@ reads_nothing H (Entries c) unfinished n (lines, (i, J, t, come, _), lacks, same
 reads_nothing H (Faulty number r) unfinished n h = h
 reads_nothing H Spent unfinished n (lines, h, lacks, same) = absurd h
 
--- whoever has heard nothing follows an auditor that was fed nothing
+-- a follower that got nothing follows an auditor that was fed nothing
 pub followed_nothing : (H : Option Heard → Type 0) (a : Feed) → IsFollowed (λ _. ⊤) a [] → H None → IsFollowed H a []
 followed_nothing H a s n = record { fed = s.fed; reads = reads_nothing H a.stage a.unfinished n s.reads }

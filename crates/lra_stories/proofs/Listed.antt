@@ -47,7 +47,7 @@ use Rattle.lra_stories.proofs.Calling.{all_called}
 
 -- ---- starts
 
--- a number, and what starts it at a moment
+-- the start of an action of a number at a moment
 abbrev begun_at : ℕ → ℕ → Begun
 begun_at moment a = record { action = a; moment = moment }
 
@@ -89,7 +89,7 @@ moments_on J e before after o was is now =
     now ∙ ap (λ (ns : List ℕ). ns ++ option_to_list o) was ∙ ap (λ (x : Option ℕ). start_moments J ++ option_to_list x)
     is ∙ sym (moments_push J e)
 
--- nothing starts in no history, which has no moment
+-- an empty history has no start, and so no moment of one
 pub moments_none : start_moments [] ≡ []
 unfolding starts
 moments_none = refl
@@ -100,13 +100,13 @@ last_none = refl
 
 -- ---- lines
 
--- an item of a list that another was made of
+-- the value from which a result was made
 item_made : {X Y : Type 0} (f : X → Y) (o : Option X) (y : Y) → option_map f o ≡ Some y → (x : X) × (o ≡ Some x)
     × (y ≡ f x)
 item_made f (Some x) y same = (x, refl, sym (same_Some (f x) y same))
 item_made f None y same = absurd (none-some y same)
 
--- the start at a place, of which the action that is listed there and the moment are
+-- the start at a place has the action that is listed there, and the moment
 pub start_at : (J : History) (xs : List ListedAction) (ms : List ℕ) (i : ℕ) (x : ListedAction) (m d : ℕ) → xs
     ≡ map (λ (b : Begun). listed_action J b.action) (starts J) → ms ≡ start_moments J
     → row_at xs (i + 1) ≡ Some x → m ≡ get_or ms i d → (b : Begun) × (row_at (starts J) (i + 1) ≡ Some b)
@@ -134,7 +134,7 @@ listed_begun J l is =
     map_twice [] = refl
     map_twice (b ∷ bs) = ap (λ (t : List ListedAction). listed_action J b.action ∷ t) (map_twice bs)
 
--- the lines of an action that is listed are the line and what it waits for
+-- the lines of an action that is to be listed are its line and its notes
 pub chosen_told : {E : Type 0} (c : Choice) (prefix : List ℕ) (i : ℕ) (ms : List ListedMember) (x : ListedAction)
     (n m : ℕ) (waits : List ℕ) (r : Result (String Global) E) → is_chosen c x.status n ≡ true → m ≡ n
     → IfOk r (λ text. string_bytes text ≡ action_line prefix i ms x m ++ waits)
@@ -144,7 +144,7 @@ chosen_told c prefix i ms x n m waits r is same = IfOk-weaker r _ _ (λ text tol
     ∙ ap (λ (k : ℕ). action_line prefix i ms x k ++ waits) same
     ∙ sym (ap (λ (b : Bool). cond b (action_line prefix i ms x n ++ waits) []) is))
 
--- the lines of a start, by what is known of it
+-- the lines of a start, by the action that is listed and the start's moment
 pub start_told : (c : Choice) (prefix : List ℕ) (i : ℕ) (J : History) (l : Listed) (b : Begun) (x : ListedAction)
     (m end : ℕ) (text : List ℕ)
     → l ≡ listing J → x ≡ listed_action J b.action → m ≡ b.moment → end ≡ unwrap_or c.now (last_moment J)
@@ -160,7 +160,7 @@ start_told c prefix i J l b x m end text is_l is_x is_m is_end told =
     of_action : ListedAction → ℕ → List ℕ
     of_action y n = chosen_lines c prefix i (listing J).members y n (asked_waits c prefix J y.action)
 
--- the lines of one start more are paged
+-- the lines of one more start are paged
 pub line_more : (c : Choice) (prefix : List ℕ) (i : ℕ) (J : History) (l : Listed) (ms : List ℕ) (place : ℕ)
     (x : ListedAction) (m d end : ℕ) (text : List ℕ) (k p q : List ℕ) (r s t : Option (List ℕ))
     → l ≡ listing J → ms ≡ start_moments J → row_at l.actions (place + 1) ≡ Some x → m ≡ get_or ms place d
@@ -173,7 +173,7 @@ line_more c prefix i J l ms place x m d end text k p q r s t is_l is_ms here at 
     IsPaged-line (start_lines c prefix i J) (starts J) place b text k p q r s t found
     (start_told c prefix i J l b x m end text is_l is_x is_m is_end told) before now
 
--- and all of them are the lines of a history
+-- the lines of all starts are the list of a history
 pub lines_whole : (c : Choice) (prefix : List ℕ) (i : ℕ) (J : History) (ms : List ℕ) (n : ℕ) → ms ≡ start_moments J
     → length ms ≤ n
     → flat_map (start_lines c prefix i J) (take n (starts J)) ≡ lines_text c prefix i J
@@ -185,11 +185,11 @@ lines_whole c prefix i J ms n is_ms all =
 
 -- ---- an auditor and a register
 
--- whoever follows it, an auditor stands for what it was fed
+-- an auditor stands for the bytes that it was fed, whatever its follower
 pub followed_anyway : (H : Option Heard → Type 0) (a : Feed) (b : List ℕ) → IsFollowed H a b → StandsFor a b
 followed_anyway H a b s = record { fed = s.fed; reads = read_anyway H a.stage a.unfinished b s.reads }
 
--- a register that heard the history of a journal is one of it
+-- a register that got the history of a journal is a register of it
 pub heard_registers : (r : Register) (v w : Version) (i j : ℕ) (J K : History) (b : List ℕ) → IsTextOf v i J b
     → IsTextOf w j K b → Hears r (Some (record { version = w; instance = j; entries = K }))
     → Registers r i J
@@ -202,7 +202,7 @@ heard_registers r v w i j J K b t u (instance, moments, end, keeps) =
       called = all_called r.calls v J K t.legal (sym same.2) keeps;
     }
 
--- what holds of a result for each input that may be known
+-- a property that holds of a result for each possible input holds for the known input, if there is one
 pub ok_for_some : {E : Type 0} (o : Option (List ℕ)) (r : Result ℕ E) (P : List ℕ → ℕ → Type 0)
     → ((b : List ℕ) → o ≡ Some b → IfOk r (P b)) → IfOk r (λ status. IfSome o (λ b. P b status))
 ok_for_some (Some b) (Ok status) P holds = holds b refl
@@ -235,11 +235,11 @@ place_small member.Compensated = omega arith
 place_small member.FailedToCompensate = omega arith
 place_small member.Left = omega arith
 
--- the same member counts where its slot is
+-- a member counts for its own action and status
 counted_there : (m : ListedMember) (a p : ℕ) → m.action ≡ a → place_of m.status ≡ p → is_counted a p m ≡ true
 counted_there m a p one other = grind (arith, one, other)
 
--- and nowhere else
+-- a member counts for no other action or status
 counted_elsewhere : (m : ListedMember) (a p : ℕ) → (m.action ≡ a → place_of m.status ≡ p → ⊥) → is_counted a p m ≡ false
 counted_elsewhere m a p apart = elim (eqb_tells m.action a) [
   | inl x ↦ elim (eqb_tells (place_of m.status) p) [
@@ -283,11 +283,11 @@ tallied_more ms i d before after lt more was slot a p place small within =
           now ∙ old ∙ sym (counts ∙ ap (λ (b : Bool). count_of (take i ms) a p + cond b 1 0) no ∙ same)
     ]
 
--- nothing is counted yet
+-- counts of 0 are those of no members
 pub tallied_none : (counts : List ℕ) → ((slot : ℕ) → get_or counts slot 0 ≡ 0) → Tallied [] counts
 tallied_none counts none slot a p place small within = none slot
 
--- the same, by the member that stands there
+-- the counts with one more member, by the member at that place
 pub tallied_next : (ms : List ListedMember) (i : ℕ) (m : ListedMember) (before after : List ℕ) → row_at ms (i + 1)
     ≡ Some m → IsMore m before after → Tallied (take i ms) before
     → Tallied (take (i + 1) ms) after
@@ -299,7 +299,7 @@ tallied_next ms i m before after here more was =
 
 -- ---- words
 
--- a status that some have is pushed
+-- the word for a status that a member has is added
 pub word_pushed : (s : MemberStatus) (n : ℕ) (before after : List (String Global)) (word : String Global) → (n ≡ 0 → ⊥)
     → string_bytes word ≡ joined (member_status_name s ∷ codes "=" ∷ decimal n ∷ []) → after ≡ before ++ word ∷ []
     → map string_bytes after ≡ map string_bytes before ++ option_to_list (counted s n)
@@ -313,13 +313,13 @@ commas_same : (ws : List (String Global)) → flat_map (λ (w : String Global). 
 commas_same [] = refl
 commas_same (w ∷ ws) = ap (λ (t : List ℕ). (codes "," ++ string_bytes w) ++ t) (commas_same ws)
 
--- words with commas between them, of which there is one
+-- words with commas between them, if there is a word
 pub listed_same : (ws : List (String Global)) → false ≡ (length ws == 0) → join_by string_bytes (codes ",") ws
     ≡ listed_words (map string_bytes ws)
 listed_same [] some = absurd (false≢true some)
 listed_same (w ∷ ws) some = ap (λ (t : List ℕ). string_bytes w ++ t) (commas_same ws)
 
--- the words of one status more
+-- the words of one more status
 pub words_more : (f : MemberStatus → Option (List ℕ)) (ss : List MemberStatus) (i : ℕ) (d : MemberStatus)
     (before after : List (List ℕ)) → i < length ss
     → before ≡ filter_map f (take i ss) → after ≡ before ++ option_to_list (f (get_or ss i d)) → after

@@ -1,4 +1,4 @@
--- What names an action.
+-- Texts that name an action.
 use Rattle.std.proofs.Common.{◌≡◌, ◌≢◌, ℕ, ◌+◌, ◌-◌, ◌<◌, List, ◌++◌, ◌^◌, length, take, drop, codes, Option, Some}
 use Rattle.std.proofs.Common.{None, inl, inr, refl, sym, ap, subst, ◌∙◌, arith}
 use Rattle.std.specs.Prelude.{IfNone}
@@ -23,12 +23,12 @@ use Rattle.lra_stories.specs.inner.Ids.{IsSpelled, IsNoId, IsNoUri}
 pub number_named : (text : List ℕ) (a : ℕ) → Some a ≡ number_of (2 ^ 64) text → text ≡ decimal a
 number_named text a is = (number_is (2 ^ 64) text a (sym is)).0
 
--- a UUID names
+-- a UUID names an action
 pub id_names : (text : List ℕ) (a : ℕ) (o : Option ℕ) → IsSpelled text a o → IsNamed text a o
 id_names text a None h = absurd h
 id_names text a (Some i) h = inl h
 
--- so does a URI that ends in one
+-- a URI that ends in a UUID names an action
 pub uri_names : (uri id : List ℕ) (a : ℕ) (o : Option ℕ) → ((base : List ℕ)
     × (uri ≡ base ++ codes "lra-coordinator/" ++ id)) → IsSpelled id a o → IsNamed uri a o
 uri_names uri id a None at h = absurd h
@@ -42,9 +42,9 @@ parts_whole uri front id base n f i b =
     sym (take-append-drop n uri) ∙ ap (λ (x : List ℕ). x ++ drop n uri) (sym f ∙ b)
     ∙ ap (λ (x : List ℕ). base ++ codes "lra-coordinator/" ++ x) (sym i)
 
--- ---- what names nothing
+-- ---- texts that name no action
 
--- what is shown is shown where there is nothing
+-- a property that holds, holds if an option is None
 pub where_none : {A X : Type 0} (o : Option A) → X → IfNone o X
 where_none (Some a) x = tt
 where_none None x = x
@@ -59,12 +59,12 @@ pub number_unnamed : (text : List ℕ) (r : Option ℕ) → r ≡ None → r ≡
 number_unnamed text r none is a lt same = none-some a (sym none ∙ is ∙ ap (number_of (2 ^ 64)) same
     ∙ number_again (2 ^ 64) a (omega arith) lt)
 
--- one that bears no instance is no UUID of any
+-- a text that bears no instance is no UUID of any
 pub id_unborne : (text : List ℕ) (r : Option ℕ) → r ≡ None → r ≡ instance_in text → IsNoId text
 id_unborne text r none is i n small spelled = none-some i (sym none ∙ is ∙ ap instance_in spelled.2
     ∙ read_whole i n (small, spelled.1))
 
--- nor one that is that of no number at the instance that it bears
+-- a text that is the UUID of no number at the instance that it bears is no UUID of any
 pub id_unread : (text : List ℕ) (j : ℕ) (q r : Option ℕ) → q ≡ instance_in text → q ≡ Some j
     → ((n : ℕ) → IsSpelling (id_text j) text n → r ≡ Some n) → r ≡ None → IsNoId text
 id_unread text j q r is borne reads none i n small spelled =
@@ -84,11 +84,11 @@ uri_length uri base i n is =
 abbrev pub IsNotSpelled : List ℕ → Type 0
 IsNotSpelled uri = (base : List ℕ) (i n : ℕ) → uri ≢ action_uri i base n
 
--- one that is shorter than an identifier is none
+-- a text that is shorter than an identifier is no URI
 pub too_short : (uri : List ℕ) → length uri < 36 → IsNotSpelled uri
 too_short uri short base i n is = absurd (let size = uri_length uri base i n is in omega (arith, size, short))
 
--- what stands before its identifier
+-- the part of a URI before its identifier
 pub uri_front : (uri base : List ℕ) (i n at : ℕ) → uri ≡ action_uri i base n → at + 36 ≡ length uri → take at uri ≡ base
     ++ codes "lra-coordinator/"
 uri_front uri base i n at is place =
@@ -97,7 +97,7 @@ uri_front uri base i n at is place =
     ap (λ (k : ℕ). take k uri) same ∙ ap (take (length (base ++ codes "lra-coordinator/"))) is
     ∙ take-append_seam (base ++ codes "lra-coordinator/") (id_text i n)
 
--- and its identifier
+-- the identifier of a URI
 pub uri_end : (uri base : List ℕ) (i n at : ℕ) → uri ≡ action_uri i base n → at + 36 ≡ length uri → drop at uri
     ≡ id_text i n
 uri_end uri base i n at is place =
@@ -106,17 +106,17 @@ uri_end uri base i n at is place =
     ap (λ (k : ℕ). drop k uri) same ∙ ap (drop (length (base ++ codes "lra-coordinator/"))) is
     ∙ drop-append_seam (base ++ codes "lra-coordinator/") (id_text i n)
 
--- nor is one with another path before its end
+-- a text with another path before its end is no URI
 pub path_lacks : (uri front : List ℕ) (at : ℕ) → at + 36 ≡ length uri → front ≡ take at uri
     → ((base : List ℕ) → front ≢ base ++ codes "lra-coordinator/") → IsNotSpelled uri
 path_lacks uri front at place is none base i n same = none base (is ∙ uri_front uri base i n at same place)
 
--- an identifier is a text
+-- an identifier is UTF-8
 pub id_utf8 : (i n : ℕ) → IsUtf8 (id_text i n)
 unfolding id_text
 id_utf8 i n = IsUtf8-from_ascii (id_text i n) (hyphenated_ascii lower (id_bytes i n) (inl refl))
 
--- nor one whose end is no text
+-- a text whose end isn't UTF-8 is no URI
 pub end_lacks : (uri id : List ℕ) (at : ℕ) → at + 36 ≡ length uri → id ≡ drop at uri → (IsUtf8 id → ⊥)
     → IsNotSpelled uri
 end_lacks uri id at place is none base i n same = none (subst IsUtf8 (sym (is ∙ uri_end uri base i n at same place))
@@ -129,7 +129,7 @@ end_unread uri id at none base i n small spelled =
     let place : length uri - 36 + 36 ≡ length uri = omega (arith, size) in
     none i n small (spelled.0, spelled.1, at ∙ uri_end uri base i n (length uri - 36) spelled.2 place)
 
--- a text that is no number, no UUID and no URI names nothing
+-- a text that is no number, no UUID and no URI names no action
 pub names_none : (text : List ℕ) → ((a : ℕ) → a < 2 ^ 64 → text ≢ decimal a) → IsNoId text → IsNoUri text
     → NamesNone text
 names_none text number id uri a None can is = number a can is

@@ -1,4 +1,4 @@
--- What is noted of an action stands on its calls alone.
+-- The notes on an action depend only on its calls.
 use Rattle.std.proofs.Common.{◌≡◌, ℕ, ◌+◌, ◌<◌, ◌≤◌, ◌==◌, Bool, true, false, ◌&&◌, cond}
 use Rattle.std.proofs.Common.{List, [], ◌∷◌, ◌++◌, length, take, get_or, map}
 use Rattle.std.proofs.Common.{Option, Some, None, Global, refl, sym, ap, ◌∙◌}
@@ -27,9 +27,9 @@ use Rattle.lra_stories.specs.Waits.{stage_now, repeats_line, repeats_note, row_n
 use Rattle.lra_stories.specs.Waits.{own_note, action_note, notes}
 use Rattle.lra_stories.specs.inner.Called.{is_call, tells_call, calls}
 
--- ---- what a filter leaves
+-- ---- a search after a filter
 
--- what passes a test, and with it a filter, is found behind the filter
+-- a search finds the same after a filter that passes all that the search may find
 find_left : (p q : Told → Bool) → ((t : Told) → p t ≡ true → q t ≡ true) → (ts : List Told)
     → find p (filter q ts) ≡ find p ts
 find_left p q all [] = refl
@@ -62,7 +62,7 @@ filter_left p q all (t ∷ ts) = either (p t) (q t) refl refl (filter_left p q a
         ∙ rest
         ∙ sym (ap (λ (x : Bool). cond x (t ∷ filter p ts) (filter p ts)) is)
 
--- ---- what is noted
+-- ---- notes
 
 -- the ask of a number is a call
 ask_calls : (n : ℕ) (t : Told) → is_ask n t ≡ true → tells_call t ≡ true
@@ -72,7 +72,7 @@ ask_calls n t = of_fact t.fact
     of_fact (Asked m p kind) so = refl
     of_fact _ so = absurd (false≢true so)
 
--- and so is an answer after which a member is asked again
+-- an answer after which a member is asked again is a call
 repeat_calls : (p : ℕ) (stage : AskKind) (t : Told) → is_repeat p stage t ≡ true → tells_call t ≡ true
 repeat_calls p stage t = of_fact t.fact
   where
@@ -114,7 +114,7 @@ member_left : (J : History) (ts : List Told) (status : ActionStatus) (p : ℕ)
     → member_notes J (filter tells_call ts) status p ≡ member_notes J ts status p
 member_left J ts status p = λ i. option_map_or (λ r. row_left J ts status p r i) (found_member J p) []
 
--- what is noted of an action stands on its calls alone
+-- the notes on an action depend only on its calls
 pub notes_left : (J : History) (ts : List Told) (a : ℕ) (r : ActionRow)
     → notes J (filter tells_call ts) a r ≡ notes J ts a r
 notes_left J ts a r = λ i.
@@ -124,11 +124,11 @@ notes_left J ts a r = λ i.
 
 -- ---- lines
 
--- what is noted of an action that may be there, an indented line each
+-- the notes on an action, an indented line each, if it exists
 abbrev noted : List ℕ → History → ℕ → Option ActionRow → List ℕ
 noted prefix J a o = option_map_or (λ (r : ActionRow). flat_map (indented prefix) (notes J (told a J) a r)) o []
 
--- what an action waits for, by what is kept of its calls
+-- the notes on an action, by its calls
 pub waits_known : (prefix : List ℕ) (J : History) (a : ℕ) (o : Option ActionRow) (r : ActionRow) (kept : List Told)
     (ns : List (List ℕ)) (text : List ℕ) → o ≡ found_action J a → o ≡ Some r → kept ≡ calls a J → ns ≡ notes J kept a r
     → text ≡ flat_map (indented prefix) ns → text ≡ waits_text prefix J a
@@ -138,12 +138,12 @@ waits_known prefix J a o r kept ns text found is had are lines =
     (are ∙ ap (λ (ts : List Told). notes J ts a r) had ∙ notes_left J (told a J) a r)
     ∙ sym (ap (noted prefix J a) (sym found ∙ is))
 
--- of an action that isn't there nothing is noted
+-- an action that doesn't exist has no notes
 pub waits_unknown : (prefix : List ℕ) (J : History) (a : ℕ) (o : Option ActionRow) → o ≡ found_action J a → o ≡ None
     → [] ≡ waits_text prefix J a
 waits_unknown prefix J a o found is = sym (ap (noted prefix J a) (sym found ∙ is))
 
--- the lines of one note more
+-- the lines of one more note
 pub indented_more : (prefix : List ℕ) (notes : List (String Global)) (i : ℕ) (d : String Global)
     (before after line : List ℕ) → i < length notes
     → before ≡ flat_map (indented prefix) (map string_bytes (take i notes))

@@ -7,7 +7,7 @@ use Rattle.lra_audits.specs.Report.{joined}
 use Rattle.lra_stories.specs.declared.drawing.TheConstants.{LOOKS}
 use Rattle.lra_stories.specs.Drawn.{top_of, row, rows, opening, lanes, framed}
 
--- one row more
+-- the rows with one more row
 pub rows_push : (n : ℕ) (cs : List (List ℕ)) (c : List ℕ) → rows n (cs ++ c ∷ []) ≡ rows n cs ++ row (n + length cs) c
 rows_push n [] c = append-nil (row n c) ∙ ap (λ (m : ℕ). row m c) (omega arith)
 rows_push n (x ∷ cs) c =
@@ -25,7 +25,7 @@ row_added before after more n cs c text count is now =
     ∙ ap (λ (t : List ℕ). rows 0 cs ++ t) (is ∙ ap (λ (m : ℕ). row m c) (count ∙ omega arith))
     ∙ sym (rows_push 0 cs c)
 
--- the rows of one item more
+-- the rows of one more item
 pub one_more : {X : Type 0} (f : X → List ℕ) (xs : List X) (i : ℕ) (d : X) (cs : List (List ℕ)) → i < length xs
     → (cs ++ map f (take i xs)) ++ f (get_or xs i d) ∷ [] ≡ cs ++ map f (take (i + 1) xs)
 one_more f xs i d cs lt =

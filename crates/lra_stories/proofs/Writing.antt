@@ -1,4 +1,4 @@
--- What is written of a story.
+-- The output of a timeline.
 use Rattle.std.proofs.Common.{◌≡◌, ℕ, ◌+◌, ◌<◌, List, [], ◌∷◌, ◌++◌, length, map, take, get_or, Global, Option, Some}
 use Rattle.std.proofs.Common.{None, refl, sym, ap, inl, inr, ◌∙◌}
 use Rattle.std.specs.Prelude.{IfOk, OnOk, Result, Ok, Err, String, string_bytes}
@@ -21,7 +21,7 @@ use Rattle.lra_stories.specs.Explained.{found, story_text, missing_line, explain
 use Rattle.lra_stories.specs.inner.Hears.{Hears, Tells}
 use Rattle.lra_stories.proofs.Rows.{one_more}
 
--- the texts of one item more
+-- the texts of one more item
 pub note_more : {X : Type 0} (f : X → List ℕ) (xs : List X) (i : ℕ) (d : X) (first before after : List (String Global))
     (note : String Global) → i < length xs
     → string_bytes note ≡ f (get_or xs i d) → map string_bytes before ≡ map string_bytes first ++ map f (take i xs)
@@ -34,7 +34,7 @@ note_more f xs i d first before after note lt is was now =
     ∙ ap (λ (n : List ℕ). (map string_bytes first ++ map f (take i xs)) ++ n ∷ []) is
     ∙ one_more f xs i d (map string_bytes first) lt
 
--- what is made of one item more
+-- the results of one more item
 pub more_of : {X Y : Type 0} (f : X → List Y) (xs : List X) (i : ℕ) (d : X) (first before after more : List Y) → i
     < length xs → more ≡ f (get_or xs i d)
     → before ≡ first ++ flat_map f (take i xs) → after ≡ before ++ more → after ≡ first ++ flat_map f (take (i + 1) xs)
@@ -50,7 +50,7 @@ pub joined_texts : (notes : List (String Global)) → flat_map string_bytes note
 joined_texts [] = refl
 joined_texts (note ∷ notes) = ap (λ (t : List ℕ). string_bytes note ++ t) (joined_texts notes)
 
--- what is printed of an action that is there
+-- the output for an action that exists
 pub explained_some : (form : Form) (w : Wanted) (name : List ℕ) (i : ℕ) (J : History) (o : Option ActionRow)
     (row : ActionRow) (a : ℕ) (bytes : List ℕ) → o ≡ found w i J → o ≡ Some row → a ≡ w.action
     → bytes ≡ story_text form J a row → bytes ≡ explained form w name i J
@@ -59,14 +59,14 @@ explained_some form w name i J o row a bytes at is same text =
     ∙ sym (ap (λ (x : Option ActionRow). option_map_or (story_text form J w.action) x (missing_line name))
     (sym at ∙ is))
 
--- and of one that isn't
+-- the output for an action that doesn't exist
 pub explained_none : (form : Form) (w : Wanted) (name : List ℕ) (i : ℕ) (J : History) (o : Option ActionRow)
     (bytes : List ℕ) → o ≡ found w i J → o ≡ None → bytes ≡ missing_line name → bytes ≡ explained form w name i J
 explained_none form w name i J o bytes at is text =
     text ∙ sym (ap (λ (x : Option ActionRow). option_map_or (story_text form J w.action) x (missing_line name))
     (sym at ∙ is))
 
--- a story that heard the history of a journal tells of it
+-- a timeline that got the history of a journal is that of the history
 pub heard_tells : (s : Story) (v : Version) (i : ℕ) (J : History) (b : List ℕ) → IsTextOf v i J b
     → Hears s (Some (record { version = v; instance = i; entries = J })) → Tells s i J
 heard_tells s v i J b t h =
@@ -76,7 +76,7 @@ heard_tells s v i J b t h =
       told = h.2;
     }
 
--- what is written of a fault
+-- the output for a fault
 pub fault_explains : (form : Form) (w : Wanted) (name b : List ℕ) (line : ℕ) (rule : Rule) (r : Result ℕ RunFault)
     (before after : Option (List ℕ))
     → IfOk r (λ status. (input : List ℕ) → IsFault input line rule → ReportsAudit input status before after)
@@ -85,7 +85,7 @@ pub fault_explains : (form : Form) (w : Wanted) (name b : List ℕ) (line : ℕ)
 fault_explains form w name b line rule (Ok status) before after reports one f = inr (one, reports b f)
 fault_explains form w name b line rule (Err e) before after reports one f = tt
 
--- what is written of a sound journal
+-- the output for a sound journal
 pub story_explains : (form : Form) (w : Wanted) (name b : List ℕ) (v : Version) (i : ℕ) (J : History)
     (r : Result ℕ RunFault) (before after : Option (List ℕ)) → IsTextOf v i J b
     → OnOk r (Appends before after (explained form w name i J)) → IfOk r (λ status. status ≡ explained_status w i J)

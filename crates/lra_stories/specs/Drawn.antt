@@ -1,6 +1,6 @@
--- The picture of what happened to an action: a row for each line of its story, so that time goes down, and a lane each
--- for the action, for its members, and for the actions that are nested in it. The lines may have addresses, and are
--- escaped; all other text in it is made of words of this program and of numbers, which have no <, > or &.
+-- The picture of an action's timeline (this project's choice): a row for each line, so that time goes down, and a lane
+-- each for the action, for its members, and for the actions that are nested in it. The lines may have addresses, and
+-- are escaped. All other text consists of words of this program and numbers, which have no <, > or &.
 use Rattle.std.specs.Prelude.{ℕ, ◌+◌, ◌*◌, List, [], ◌∷◌, ◌++◌, map, length, codes}
 use Rattle.std.specs.List.{flat_map}
 use Rattle.std.specs.Fmt.{decimal}
@@ -19,11 +19,11 @@ use Rattle.lra_stories.specs.declared.drawing.TheConstants.{LOOKS}
 use Rattle.lra_stories.specs.Times.{moment_text}
 use Rattle.lra_stories.specs.Sentences.{told_line}
 
--- how far down the row of a number begins: all are of one height
+-- the vertical position at which the row of a number begins; all rows have the same height
 abbrev pub top_of : ℕ → ℕ
 top_of n = 26 * n
 
--- the row of a number, with what stands in it
+-- the row of a number, with its content
 abbrev pub row : ℕ → List ℕ → List ℕ
 row n content = joined (codes "<g transform=\"translate(0," ∷ decimal (top_of n) ∷ codes ")\">" ∷ content
     ∷ codes "</g>\n" ∷ [])
@@ -33,7 +33,7 @@ abbrev pub rows : ℕ → List (List ℕ) → List ℕ
 rows n [] = []
 rows n (content ∷ more) = row n content ++ rows (n + 1) more
 
--- a mark in the action's lane: a disk, of the look of a status
+-- a mark in the action's lane: a disk in the style of a status
 abbrev pub action_mark : ActionStatus → List ℕ
 action_mark status = joined (codes "<circle cx=\"28\" cy=\"13\" r=\"7\" class=\"" ∷ action_status_name status
     ∷ codes "\"/>" ∷ [])
@@ -48,8 +48,8 @@ abbrev pub nested_mark : ActionStatus → List ℕ
 nested_mark status = joined (codes "<path d=\"M84 5l8 8l-8 8l-8-8z\" class=\"" ∷ action_status_name status
     ∷ codes "\"/>" ∷ [])
 
--- the mark of a fact, where the action has this status after it: in the lane of whom it is about, and of the look of
--- what that came to
+-- the mark of a timeline item after which the action has this status: in the lane of the item's subject, and in the
+-- style of the item's outcome
 abbrev pub mark : ActionStatus → Fact → List ℕ
 mark status (Started by moment parent limit) = action_mark status
 mark status (Joined p) = member_mark (codes "joined")
@@ -68,38 +68,38 @@ mark status (NestedCloses b) = nested_mark action.Closing
 mark status (NestedCancels b) = nested_mark action.Cancelling
 mark status (NestedEnded b s) = nested_mark s
 
--- the action's lane from a row to the next one, of the look of the status that it has meanwhile
+-- the action's lane from a row to the next one, in the style of the status that the action has meanwhile
 abbrev pub stretch : ActionStatus → List ℕ
 stretch status = joined (codes "<line x1=\"28\" y1=\"13\" x2=\"28\" y2=\"39\" class=\"" ∷ action_status_name status
     ∷ codes "\"/>" ∷ [])
 
--- when it was
+-- the text element of a moment
 abbrev pub moment_words : ℕ → List ℕ
 moment_words moment = joined (codes "<text x=\"112\" y=\"18\" class=\"moment\">" ∷ moment_text moment
     ∷ codes "</text>" ∷ [])
 
--- a line of the story, escaped, with its line feed, which no text of SVG shows
+-- the text element of a line of the timeline, escaped, with its line feed, which SVG doesn't show
 abbrev pub words : List ℕ → List ℕ
 words line = joined (codes "<text x=\"328\" y=\"18\">" ∷ escaped line ∷ codes "</text>" ∷ [])
 
--- what stands in the first row: how the action is now
+-- the content of the first row: the head line with the action's status
 abbrev pub head_row : List ℕ → List ℕ
 head_row head = joined (codes "<text x=\"20\" y=\"18\" class=\"head\">" ∷ head ∷ codes "</text>" ∷ [])
 
--- what stands in the row of an entry: marks, when it was, and the line that tells of it
+-- the content of the row of a timeline item: marks, the moment and the line
 abbrev pub told_row : History → Told → List ℕ
 told_row J t = joined (stretch t.status ∷ mark t.status t.fact ∷ moment_words t.moment ∷ words (told_line J t) ∷ [])
 
--- what stands in the row of a note; where nothing is noted there is none
+-- the content of the row of a note; an empty note has no row
 abbrev pub note_rows : List ℕ → List (List ℕ)
 note_rows [] = []
 note_rows (c ∷ note) = words (c ∷ note) ∷ []
 
--- what stands in the rows: how the action is now; then each entry that concerns it, in order; then each note
+-- the contents of the rows: the head line; then each timeline item, in order; then each note
 abbrev pub contents : History → List ℕ → List Told → List (List ℕ) → List (List ℕ)
 contents J head ts notes = head_row head ∷ [] ++ map (told_row J) ts ++ flat_map note_rows notes
 
--- what the picture begins with: its size, and what it is of
+-- the opening of the picture, with its size and its title
 abbrev pub opening : List ℕ → ℕ → List ℕ
 opening head height =
     joined
@@ -123,7 +123,6 @@ abbrev pub framed : List ℕ → List (List ℕ) → List ℕ
 framed head cs = joined (opening head (top_of (length cs)) ∷ LOOKS.now ∷ lanes (top_of (length cs)) ∷ rows 0 cs
     ∷ codes "</svg>\n" ∷ [])
 
--- the picture of a story of a history by its parts: how the action is now, what is told of it, and what is noted at the
--- end
+-- the picture of a timeline: the head line with the action's status, the items, and the notes
 unfoldable pub picture : History → List ℕ → List Told → List (List ℕ) → List ℕ
 picture J head ts notes = framed head (contents J head ts notes)

@@ -1,4 +1,4 @@
--- What each entry of a history is to one action.
+-- The timeline of an action: the meaning of each entry of a history for it (this project's choice).
 use Rattle.std.specs.Prelude.{ℕ, ◌+◌, ◌==◌, Bool, false, List, [], ◌∷◌, ◌++◌, length, Option, Some, None, is_some, cond}
 use Rattle.std.specs.Option.{option_map_or, option_and_then}
 use Rattle.std.specs.List.{flat_map, list_any}
@@ -25,50 +25,51 @@ use Rattle.lra_stories.specs.declared.facts.Fact.{Fact}
 use Rattle.lra_stories.specs.declared.facts.Fact.TheVariants as fact
 use Rattle.lra_stories.specs.declared.facts.Told.{Told}
 
--- a fact, where it is one of the action's
+-- an item, if it is one of the action's
 abbrev pub when : Bool → Fact → Option Fact
 when is_its f = words.when is_its f
 
--- whether this is the action
+-- an optional number is that of the action
 abbrev pub is_at : ℕ → Option ℕ → Bool
 is_at a o = option_map_or (λ b. b == a) o false
 
--- whether a member is one of the action
+-- a member is one of the action
 abbrev pub is_member_of : History → ℕ → ℕ → Bool
 is_member_of J a p = option_map_or (λ (r : MemberRow). r.action == a) (found_member J p) false
 
--- whether an action is nested directly in the action
+-- an action is nested directly in the action
 abbrev pub is_child_of : History → ℕ → ℕ → Bool
 is_child_of J a b = option_map_or (λ (r : ActionRow). is_at a r.parent) (found_action J b) false
 
--- whether an ask of a member is outstanding
+-- an ask of a member is outstanding
 abbrev pub is_asked : History → ℕ → Bool
 is_asked J p = option_map_or (λ (r : MemberRow). is_some r.outstanding) (found_member J p) false
 
--- what an entry about an action is to one: one of two facts, as it is the action itself or nested directly in it
+-- the item of an entry about an action: the first one if it is the action itself, the second one if it is nested
+-- directly in it
 abbrev pub of_action : History → ℕ → ℕ → Fact → Fact → Option Fact
 of_action J a b own nested = cond (b == a) (Some own) (when (is_child_of J a b) nested)
 
--- what the start of an action, in the one above it, is
+-- the item of the start of an action, by its parent
 abbrev pub of_start : ℕ → ℕ → Option ℕ → Fact → Option Fact
 of_start a b parent own = cond (b == a) (Some own) (when (is_at a parent) (fact.NestedStarted b))
 
--- what a reply to an ask is: the answer of the member that was asked, in the stage of the ask
+-- the item of a reply to an ask: the answer of the member that was asked, in the stage of the ask
 abbrev pub of_reply : History → ℕ → ℕ → Outcome → Option Fact
 of_reply J a n o = option_and_then (λ (x : AskRow). when (is_member_of J a x.member)
     (fact.Answered n x.member (stage_of x.kind x.direction) o)) (found_ask J n)
 
--- the stage that a report belongs to, by the member's status before it
+-- the stage of a report, by the member's status before it
 abbrev pub stage_reported : MemberStatus → AskKind
 stage_reported s = cond (is_compensating s) ask.Compensate ask.Complete
 
--- what a report is
+-- the item of a report
 abbrev pub of_report : History → ℕ → ℕ → Outcome → Option Fact
 of_report J a p o = option_and_then (λ (r : MemberRow). when (r.action == a)
     (fact.Reported p (stage_reported r.status) o)) (found_member J p)
 
--- what an entry that comes after a history is to an action: nothing where it concerns neither the action, nor one of
--- its members, nor an action that is nested directly in it
+-- the timeline item of an entry after a history, if the entry concerns the action, one of its members, or an action
+-- that is nested directly in it
 abbrev pub fact_in : ℕ → History → Entry → Option Fact
 fact_in a J e = of_deed e.deed
   where
@@ -87,22 +88,21 @@ fact_in a J e = of_deed e.deed
     of_deed Restart = when (list_any (is_asked J) (members_of J a)) fact.Restarted
     of_deed (Renew b limit) = when (b == a) (fact.Renewed limit)
 
--- the status of an action; Active where there is none
+-- the status of an action, or Active if there is no such action
 abbrev pub status_now : History → ℕ → ActionStatus
 status_now J a = option_map_or (λ (r : ActionRow). r.status) (found_action J a) action.Active
 
--- what is told of an entry at a line and a moment, with the action's status after it: nothing where it is nothing to
+-- the item of an entry, with its line, its moment and the action's status after it; none if the entry doesn't concern
 -- the action
 abbrev pub told_of : ℕ → ℕ → ActionStatus → Option Fact → List Told
 told_of line moment status None = []
 told_of line moment status (Some f) = record { line = line; moment = moment; status = status; fact = f } ∷ []
 
--- what is told of a step: its line in the journal, of which the header is the first, its moment, the action's status
--- after it, and what it is to the action
+-- the item of a step, with its line in the journal (the header is line 1), its moment and the action's status after it
 abbrev pub told_at : ℕ → Step → List Told
 told_at a s = told_of (length s.past + 2) s.entry.moment (status_now (s.past ++ s.entry ∷ []) a)
     (fact_in a s.past s.entry)
 
--- what is told of an action: each entry of a history that concerns it, in order
+-- the timeline of an action: the item of each entry of a history that concerns it, in order
 unfoldable pub told : ℕ → History → List Told
 told a J = flat_map (told_at a) (steps J)

@@ -1,4 +1,5 @@
--- What is written of a journal's actions: which are listed, how old each is, its members, and what it waits for.
+-- The list of a journal's actions (this project's choice): which are listed, how old each is, its members, and what it
+-- waits for.
 use Rattle.std.specs.Prelude.{◌≡◌, ◌⊎◌, ℕ, zero, suc, ◌-◌, ◌*◌, ◌==◌, nat_lt, Bool, true, ◌&&◌, List, [], ◌∷◌, ◌++◌}
 use Rattle.std.specs.Prelude.{length, filter, codes, Option, Some, None, option_map, unwrap_or, cond}
 use Rattle.std.specs.Option.{option_map_or}
@@ -27,7 +28,7 @@ use Rattle.lra_stories.specs.Facts.{told}
 use Rattle.lra_stories.specs.Waits.{notes}
 use Rattle.lra_stories.specs.Times.{seconds_text}
 
--- that an action started, and the moment at which it did, in milliseconds
+-- the start of an action, and its moment in milliseconds
 pub record Begun : Type 0 where
   pub action : ℕ
   pub moment : ℕ
@@ -36,28 +37,28 @@ pub record Begun : Type 0 where
 abbrev pub begun_by : Entry → Option Begun
 begun_by e = option_map (λ a. record { action = a; moment = e.moment }) (started_by e.deed)
 
--- the starts of a history, in their order
+-- the starts of a history, in order
 unfoldable pub starts : History → List Begun
 starts J = filter_map begun_by J
 
--- how old an action is that started at a moment: up to the moment that is asked for, or the history's last; 0 where
--- that comes before
+-- the age of an action that started at a moment, up to the chosen moment or the history's last one; 0 if that is before
+-- the start
 abbrev pub age : Choice → History → ℕ → ℕ
 age c J moment = unwrap_or c.now (last_moment J) - moment
 
--- whether a status is the one that is asked for, where one is
+-- a status is the wanted one, or any status is wanted
 abbrev pub has_status : Option ActionStatus → ActionStatus → Bool
 has_status o s = option_map_or (same_status s) o true
 
--- whether an age in milliseconds is more than so many seconds, where that is asked for
+-- an age in milliseconds is more than a number of seconds, or any age is wanted
 abbrev pub is_older : Option ℕ → ℕ → Bool
 is_older o n = option_map_or (λ seconds. nat_lt (seconds * 1000) n) o true
 
--- whether an action of a status and an age is listed
+-- an action with this status and this age is to be listed
 abbrev pub is_chosen : Choice → ActionStatus → ℕ → Bool
 is_chosen c s n = has_status c.status s && is_older c.older_than n
 
--- the place of a status of members, in the order in which they are listed
+-- the place of a member's status, in the order in which the statuses are listed
 abbrev pub place_of : MemberStatus → ℕ
 place_of member.Active = 0
 place_of member.Completing = 1
@@ -68,31 +69,31 @@ place_of member.Compensated = 5
 place_of member.FailedToCompensate = 6
 place_of member.Left = 7
 
--- all of them, in that order
+-- all statuses of members, in that order
 abbrev pub statuses : List MemberStatus
 statuses =
     member.Active ∷ member.Completing ∷ member.Completed ∷ member.FailedToComplete ∷ member.Compensating
     ∷ member.Compensated ∷ member.FailedToCompensate ∷ member.Left ∷ []
 
--- whether a member is of an action, and has the status of a place
+-- a member is one of an action, and has the status of a place
 abbrev pub is_counted : ℕ → ℕ → ListedMember → Bool
 is_counted a p m = (m.action == a) && (place_of m.status == p)
 
--- how many of the members of an action have the status of a place
+-- the number of members of an action that have the status of a place
 abbrev pub count_of : List ListedMember → ℕ → ℕ → ℕ
 count_of ms a p = length (filter (is_counted a p) ms)
 
--- a status with how many members have it, where any has
+-- the word for a status and the number of members that have it, unless that is 0
 abbrev pub counted : MemberStatus → ℕ → Option (List ℕ)
 counted s zero = None
 counted s (suc n) = Some (joined (member_status_name s ∷ codes "=" ∷ decimal (suc n) ∷ []))
 
--- texts with commas between them, or * where there is none
+-- texts with commas between them, or * if there is none
 abbrev pub listed_words : List (List ℕ) → List ℕ
 listed_words [] = codes "*"
 listed_words (t ∷ ts) = t ++ flat_map (λ (u : List ℕ). codes "," ++ u) ts
 
--- how many members have each status, by how many have that of a place
+-- the text of the number of members that have each status, by the number for each place
 abbrev pub tally_text : (ℕ → ℕ) → List ℕ
 tally_text count = listed_words (filter_map (λ s. counted s (count (place_of s))) statuses)
 
@@ -101,7 +102,7 @@ abbrev pub line_front : List ℕ → ℕ → ListedAction → List ℕ
 line_front prefix i x = joined (prefix ∷ decimal x.action ∷ codes " " ∷ id_text i x.action ∷ codes " "
     ∷ action_status_name x.status ∷ [])
 
--- the second half: its parent's number or *, its age in seconds, and how many of its members have each status
+-- the second half: the parent's number or *, the age in seconds, and the number of members that have each status
 abbrev pub line_end : List ListedMember → ListedAction → ℕ → List ℕ
 line_end ms x n =
     joined (codes " " ∷ or_star (option_map decimal x.parent) ∷ codes " " ∷ seconds_text n ∷ codes " "
@@ -111,51 +112,51 @@ line_end ms x n =
 abbrev pub action_line : List ℕ → ℕ → List ListedMember → ListedAction → ℕ → List ℕ
 action_line prefix i ms x n = line_front prefix i x ++ line_end ms x n
 
--- a line that is noted of an action, behind a prefix and two spaces; nothing, where nothing is noted
+-- a note after a prefix and two spaces; empty if the note is empty
 abbrev pub indented : List ℕ → List ℕ → List ℕ
 indented prefix [] = []
 indented prefix (c ∷ cs) = prefix ++ (codes "  " ++ (c ∷ cs))
 
--- what is noted at the end of the story of an action of a history, an indented line each: what it waits for, or which
--- of those below it failed, and what its members are asked
+-- the notes at the end of the timeline of an action of a history, an indented line each: what it waits for, which
+-- members and nested actions failed, and what its members are asked
 abbrev pub waits_text : List ℕ → History → ℕ → List ℕ
 waits_text prefix J a =
     option_map_or (λ (r : ActionRow). flat_map (indented prefix) (notes J (told a J) a r)) (found_action J a) []
 
--- the same where it is asked for
+-- the notes, if the choice includes them
 abbrev pub asked_waits : Choice → List ℕ → History → ℕ → List ℕ
 asked_waits c prefix J a = cond c.waits (waits_text prefix J a) []
 
--- the line of an action and what it waits for, where the action is listed
+-- the line of an action and its notes, if the action is to be listed
 abbrev pub chosen_lines : Choice → List ℕ → ℕ → List ListedMember → ListedAction → ℕ → List ℕ → List ℕ
 chosen_lines c prefix i ms x n waits = cond (is_chosen c x.status n) (action_line prefix i ms x n ++ waits) []
 
--- what is written of a start: the line of its action as it is at the history's end, and what the action waits for,
--- where that is asked for
+-- the lines for a start: the line of its action at the history's end, and the action's notes if the choice includes
+-- them
 abbrev pub start_lines : Choice → List ℕ → ℕ → History → Begun → List ℕ
 start_lines c prefix i J b =
     chosen_lines c prefix i (listing J).members (listed_action J b.action) (age c J b.moment)
     (asked_waits c prefix J b.action)
 
--- what is written of a history of an instance: the lines of each action that is listed, in the order of their starts
+-- the list for a history of an instance: the lines of each action that is to be listed, in the order of their starts
 unfoldable pub lines_text : Choice → List ℕ → ℕ → History → List ℕ
 lines_text c prefix i J = flat_map (start_lines c prefix i J) (starts J)
 
--- the input is the text of this history; what was written are the lines of its actions, and the status is 0
+-- the input is the text of this history; the output is the list of its actions, and the status is 0
 pub record WritesLines (c : Choice) (prefix input : List ℕ) (status : ℕ) (before after : Option (List ℕ)) (v : Version)
     (i : ℕ) (J : History) : Type 0 where
   pub sound : IsTextOf v i J input
   pub written : Appends before after (lines_text c prefix i J)
   pub answered : status ≡ 0
 
--- what was written is the prefix, and then what an audit writes; the status is 1
+-- the output is the prefix, and then that of an audit; the status is 1
 pub record WritesFault (prefix input : List ℕ) (status : ℕ) (before after : Option (List ℕ)) : Type 0 where
   pub between : Option (List ℕ)
   pub named : Appends before between prefix
   pub told : ReportsAudit input status between after
   pub answered : status ≡ 1
 
--- what is written of a sound journal, and of an unsound one
+-- the output for a sound journal, or for an unsound one
 abbrev pub ListsActions : Choice → List ℕ → List ℕ → ℕ → Option (List ℕ) → Option (List ℕ) → Type 0
 ListsActions c prefix input status before after =
     ((v : Version) × (i : ℕ) × (J : History) × WritesLines c prefix input status before after v i J)

@@ -1,4 +1,4 @@
--- The sentences in which facts are told.
+-- The sentences of a timeline (this project's choice).
 use Rattle.std.specs.Prelude.{ℕ, zero, suc, List, [], ◌∷◌, ◌++◌, codes, Option, Some, None, cond}
 use Rattle.std.specs.Fmt.{decimal}
 use Rattle.lra_model.specs.declared.status.ActionStatus.{ActionStatus}
@@ -21,39 +21,39 @@ use Rattle.lra_stories.specs.declared.facts.Fact.TheVariants.{NestedStarted, Nes
 use Rattle.lra_stories.specs.declared.facts.Told.{Told}
 use Rattle.lra_stories.specs.Times.{moment_text, length_text}
 
--- which action it is nested in, if it is
+-- the words for the parent of an action; empty if it isn't nested
 abbrev pub below_text : Option ℕ → List ℕ
 below_text None = []
 below_text (Some a) = codes ", below action " ++ decimal a
 
--- which limit it has in milliseconds, where 0 is none
+-- the words for a limit in milliseconds; empty if it is 0, which is none
 abbrev pub limit_text : ℕ → List ℕ
 limit_text zero = []
 limit_text (suc n) = joined (codes ", with a limit of " ∷ length_text (suc n) ∷ [])
 
--- who started an action and when, in which one, and with which limit
+-- the sentence for a start: the clerk, the moment, the parent and the limit
 abbrev pub started_text : ℕ → ℕ → Option ℕ → ℕ → List ℕ
 started_text by moment parent limit =
     joined (codes "started by clerk " ∷ decimal by ∷ codes " at " ∷ moment_text moment ∷ below_text parent
     ∷ limit_text limit ∷ [])
 
--- why an action is closed
+-- the reason why an action is closed
 abbrev pub close_reason : Cause → List ℕ
 close_reason cause.Client = codes "its client closes it"
 close_reason cause.Parent = codes "the action above it is closed"
 close_reason cause.Limit = codes "its limit passed"
 
--- why an action is cancelled
+-- the reason why an action is cancelled
 abbrev pub cancel_reason : Cause → List ℕ
 cancel_reason cause.Client = codes "its client cancels it"
 cancel_reason cause.Parent = codes "the action above it is cancelled"
 cancel_reason cause.Limit = codes "its limit passed"
 
--- that an action has a status now, and why
+-- the sentence that says that an action has a status, and why
 abbrev pub turned_text : List ℕ → ActionStatus → List ℕ
 turned_text reason status = joined (reason ∷ codes ": it is " ∷ action_status_name status ∷ [])
 
--- how an action ended, and why so
+-- the sentence that says how an action ended, and why
 abbrev pub ended_text : ActionStatus → List ℕ
 ended_text status =
     cond (has_failed status)
@@ -61,16 +61,16 @@ ended_text status =
     ∷ codes ": all that it waited for has ended, and not all of it well" ∷ []))
     (joined (codes "it is " ∷ action_status_name status ∷ codes ": all that it waited for has ended well" ∷ []))
 
--- an address with its name
+-- the words for an address, with its name
 abbrev pub named_text : List ℕ → List ℕ → List ℕ
 named_text name u = joined (codes ", " ∷ name ∷ codes " " ∷ u ∷ [])
 
--- an address that a member joined with, where it has it
+-- the words for an address of a member; empty if it has none of that name
 abbrev pub address_text : List ℕ → Option (List ℕ) → List ℕ
 address_text name None = []
 address_text name (Some u) = named_text name u
 
--- the addresses that a member joined with
+-- the words for the addresses with which a member joined
 abbrev pub addresses_text : Addresses → List ℕ
 addresses_text u =
     joined
@@ -82,12 +82,12 @@ addresses_text u =
     ∷ []
     )
 
--- that a member joined, and with which addresses
+-- the sentence that says that a member joined, and with which addresses
 abbrev pub joined_text : ℕ → Option Addresses → List ℕ
 joined_text p None = joined (codes "member " ∷ decimal p ∷ codes " joined" ∷ [])
 joined_text p (Some u) = joined (codes "member " ∷ decimal p ∷ codes " joined" ∷ addresses_text u ∷ [])
 
--- what a member is asked
+-- the words for a kind of ask
 abbrev pub ask_words : AskKind → List ℕ
 ask_words ask.Complete = codes "asked to complete"
 ask_words ask.Compensate = codes "asked to compensate"
@@ -95,12 +95,12 @@ ask_words ask.Status = codes "asked how far it is"
 ask_words ask.Forget = codes "asked to forget"
 ask_words ask.After = codes "told how the action ended"
 
--- that a member is asked, by the ask of a number
+-- the sentence that says that a member is asked, with the ask's number
 abbrev pub asked_text : ℕ → ℕ → AskKind → List ℕ
 asked_text n p kind = joined (codes "member " ∷ decimal p ∷ codes " is " ∷ ask_words kind ∷ codes " (ask " ∷ decimal n
     ∷ codes ")" ∷ [])
 
--- what a member says that has done what a stage is for
+-- the words for the success of a member in a stage
 abbrev pub done_words : AskKind → List ℕ
 done_words ask.Complete = codes "it is completed"
 done_words ask.Compensate = codes "it is compensated"
@@ -108,7 +108,7 @@ done_words ask.Status = codes "it is done"
 done_words ask.Forget = codes "it has forgotten"
 done_words ask.After = codes "it knows how the action ended"
 
--- what a member says that couldn't do what a stage is for
+-- the words for the failure of a member in a stage
 abbrev pub failed_words : AskKind → List ℕ
 failed_words ask.Complete = codes "it failed to complete"
 failed_words ask.Compensate = codes "it failed to compensate"
@@ -116,48 +116,48 @@ failed_words ask.Status = codes "it failed"
 failed_words ask.Forget = codes "it failed to forget"
 failed_words ask.After = codes "it failed to note how the action ended"
 
--- what a member says
+-- the words for an outcome of a member in a stage
 abbrev pub outcome_words : AskKind → Outcome → List ℕ
 outcome_words stage outcome.Done = done_words stage
 outcome_words stage outcome.Failed = failed_words stage
 outcome_words stage outcome.Accepted = codes "it goes on"
 outcome_words stage outcome.Silent = codes "nothing"
 
--- that a member gave no answer to an ask
+-- the sentence that says that a member gave no answer to an ask
 abbrev pub silent_text : ℕ → ℕ → List ℕ
 silent_text n p = codes "member " ++ (decimal p ++ (codes " gave no answer to ask " ++ decimal n))
 
--- what a member answered
+-- the sentence that says what a member answered
 abbrev pub said_text : ℕ → AskKind → Outcome → List ℕ
 said_text p stage o = joined (codes "member " ∷ decimal p ∷ codes " answered that " ∷ outcome_words stage o ∷ [])
 
--- what a member answered to an ask, or that it didn't
+-- the sentence that says what a member answered to an ask, or that it gave no answer
 abbrev pub answered_text : ℕ → ℕ → AskKind → Outcome → List ℕ
 answered_text n p stage o = cond (is_silent o) (silent_text n p) (said_text p stage o)
 
--- what a member told of itself
+-- the sentence that says what a member reported
 abbrev pub reported_text : ℕ → AskKind → Outcome → List ℕ
 reported_text p stage o = joined (codes "member " ∷ decimal p ∷ codes " reported that " ∷ outcome_words stage o ∷ [])
 
--- that a member is completed without being asked
+-- the sentence that says that a member is completed without being asked
 abbrev pub skipped_text : ℕ → List ℕ
 skipped_text p = joined (codes "member " ∷ decimal p ∷ codes " is completed without being asked" ∷ [])
 
--- that asks are void
+-- the sentence that says that the coordinator restarted, and asks are void
 abbrev pub restarted_text : List ℕ
 restarted_text = codes "the coordinator restarted, and waits for no answer any more"
 
--- that a limit is set anew, in milliseconds, where 0 is none
+-- the sentence for a new limit in milliseconds, where 0 is none
 abbrev pub renewed_text : ℕ → List ℕ
 renewed_text zero = codes "its limit is lifted"
 renewed_text (suc n) = joined (codes "its limit is set anew, to " ∷ length_text (suc n) ∷ codes " from now" ∷ [])
 
--- how a nested action ended
+-- the sentence that says how a nested action ended
 abbrev pub nested_ended_text : ℕ → ActionStatus → List ℕ
 nested_ended_text b status = joined (codes "action " ∷ decimal b ∷ codes " below it is " ∷ action_status_name status
     ∷ [])
 
--- what is told of a fact of a history, where the action has this status after it
+-- the sentence of a timeline item of a history after which the action has this status
 abbrev pub fact_text : History → ActionStatus → Fact → List ℕ
 fact_text J status (Started by moment parent limit) = started_text by moment parent limit
 fact_text J status (Joined p) = joined_text p (found_addresses J p)
@@ -176,11 +176,11 @@ fact_text J status (NestedCloses b) = joined (codes "action " ∷ decimal b ∷ 
 fact_text J status (NestedCancels b) = joined (codes "action " ∷ decimal b ∷ codes " below it is Cancelling" ∷ [])
 fact_text J status (NestedEnded b s) = nested_ended_text b s
 
--- the line that tells of an entry of a history
+-- the line of a timeline item of a history
 abbrev pub told_line : History → Told → List ℕ
 told_line J t = joined (codes "line " ∷ decimal t.line ∷ codes ": " ∷ fact_text J t.status t.fact ∷ line_feed ∷ [])
 
--- the line that tells how an action is now
+-- the head line, which says what status an action has now
 abbrev pub head_line : ℕ → Option ℕ → ActionStatus → List ℕ
 head_line a None status = joined (codes "action " ∷ decimal a ∷ codes " is " ∷ action_status_name status ∷ line_feed
     ∷ [])

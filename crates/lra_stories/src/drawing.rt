@@ -1,5 +1,5 @@
-//! The picture of what happened to an action: an SVG document that stands alone. The lines of the story may have
-//! addresses, and are escaped.
+//! Picture of an action's timeline: a self-contained SVG document. The lines of the timeline may have addresses, and
+//! are escaped.
 
 ghost use Rattle.std.specs.Prelude.{◌≡◌, ◌+◌, ◌++◌, ◌∷◌, [], ℕ, List, IfOk, OnOk, map, string_bytes};
 ghost use Rattle.std.specs.List.{flat_map};
@@ -18,7 +18,7 @@ use lra_model::{ActionStatus, Memory};
 use lra_rows::Rows;
 use std::alloc::{AllocError, Global};
 
-/// Look of the picture, by day and by night.
+/// Style sheet of the picture, for light and dark colour schemes.
 const LOOKS: &str = "<style>
 svg{background:#fbfbf9}text{font:13px ui-monospace,monospace;fill:#1c2430}.moment{fill:#5b6675}.head{font-weight:600}
 circle,rect,path{fill:currentColor}line{stroke:currentColor;stroke-width:3}.lane{fill:none;stroke:#d9dde3}
@@ -31,7 +31,7 @@ circle,rect,path{fill:currentColor}line{stroke:currentColor;stroke-width:3}.lane
 </style>
 ";
 
-/// Returns how far down the row of a number begins.
+/// Returns the vertical position at which the row of a number begins.
 fn top_of(number: u64) -> Result<u64, Memory>
     ensures { IfOk result (λ top. top ≡ drawn.top_of number) }
 {
@@ -41,7 +41,7 @@ fn top_of(number: u64) -> Result<u64, Memory>
     }
 }
 
-/// Returns how many rows there are with one more.
+/// Returns the number of rows with one more.
 fn next_of(count: u64) -> Result<u64, Memory>
     ensures { IfOk result (λ next. next ≡ count + 1) }
 {
@@ -51,7 +51,7 @@ fn next_of(count: u64) -> Result<u64, Memory>
     }
 }
 
-/// The row of a number.
+/// Returns the row of a number, with its content.
 fn row_text(alloc: Global, number: u64, content: &str) -> Result<String, Memory>
     ensures { IfOk result (λ text. string_bytes text ≡ drawn.row number content.now) }
 {
@@ -59,7 +59,7 @@ fn row_text(alloc: Global, number: u64, content: &str) -> Result<String, Memory>
     format!(in alloc; "<g transform=\"translate(0,{top})\">{content}</g>\n")
 }
 
-/// A mark in the action's lane.
+/// Returns a mark in the action's lane.
 fn action_mark(alloc: Global, status: ActionStatus) -> Result<String, Memory>
     ensures { IfOk result (λ text. string_bytes text ≡ drawn.action_mark status) }
 {
@@ -67,14 +67,14 @@ fn action_mark(alloc: Global, status: ActionStatus) -> Result<String, Memory>
     format!(in alloc; "<circle cx=\"28\" cy=\"13\" r=\"7\" class=\"{look}\"/>")
 }
 
-/// A mark in the members' lane.
+/// Returns a mark in the members' lane.
 fn member_mark(alloc: Global, look: &str) -> Result<String, Memory>
     ensures { IfOk result (λ text. string_bytes text ≡ drawn.member_mark look.now) }
 {
     format!(in alloc; "<rect x=\"50\" y=\"7\" width=\"12\" height=\"12\" class=\"{look}\"/>")
 }
 
-/// A mark in the lane of the nested actions.
+/// Returns a mark in the lane of the nested actions.
 fn nested_mark(alloc: Global, status: ActionStatus) -> Result<String, Memory>
     ensures { IfOk result (λ text. string_bytes text ≡ drawn.nested_mark status) }
 {
@@ -82,7 +82,7 @@ fn nested_mark(alloc: Global, status: ActionStatus) -> Result<String, Memory>
     format!(in alloc; "<path d=\"M84 5l8 8l-8 8l-8-8z\" class=\"{look}\"/>")
 }
 
-/// The mark of a fact, where the action has this status after it.
+/// Returns the mark of a timeline item after which the action has this status.
 fn mark(alloc: Global, status: ActionStatus, fact: Fact) -> Result<String, Memory>
     ensures { IfOk result (λ text. string_bytes text ≡ drawn.mark status fact) }
 {
@@ -106,7 +106,7 @@ fn mark(alloc: Global, status: ActionStatus, fact: Fact) -> Result<String, Memor
     }
 }
 
-/// The action's lane from a row to the next one.
+/// Returns the action's lane from a row to the next one.
 fn stretch(alloc: Global, status: ActionStatus) -> Result<String, Memory>
     ensures { IfOk result (λ text. string_bytes text ≡ drawn.stretch status) }
 {
@@ -114,7 +114,7 @@ fn stretch(alloc: Global, status: ActionStatus) -> Result<String, Memory>
     format!(in alloc; "<line x1=\"28\" y1=\"13\" x2=\"28\" y2=\"39\" class=\"{look}\"/>")
 }
 
-/// When it was.
+/// Returns the text element of a moment.
 fn moment_words(alloc: Global, moment: u64) -> Result<String, Memory>
     ensures { IfOk result (λ text. string_bytes text ≡ drawn.moment_words moment) }
 {
@@ -122,7 +122,7 @@ fn moment_words(alloc: Global, moment: u64) -> Result<String, Memory>
     format!(in alloc; "<text x=\"112\" y=\"18\" class=\"moment\">{moment}</text>")
 }
 
-/// A text as XML spells it.
+/// Escapes a text for XML.
 fn escaped(alloc: Global, text: &str) -> Result<String, Memory>
     ensures { IfOk result (λ spelled. string_bytes spelled ≡ escaped text.now) }
 {
@@ -134,7 +134,7 @@ fn escaped(alloc: Global, text: &str) -> Result<String, Memory>
     }
 }
 
-/// A line of the story.
+/// Returns the text element of a line of the timeline.
 fn words(alloc: Global, line: &str) -> Result<String, Memory>
     ensures { IfOk result (λ text. string_bytes text ≡ drawn.words line.now) }
 {
@@ -142,7 +142,7 @@ fn words(alloc: Global, line: &str) -> Result<String, Memory>
     format!(in alloc; "<text x=\"328\" y=\"18\">{line}</text>")
 }
 
-/// The line that tells of an entry.
+/// Returns the text element of a timeline item.
 fn told_words(alloc: Global, rows: &Rows, told: &Told) -> Result<String, Memory>
     ensures { (J : History) → StandsFor rows.now.sheet J → IfOk result
         (λ text. string_bytes text ≡ drawn.words (told_words J told.now)) }
@@ -151,14 +151,14 @@ fn told_words(alloc: Global, rows: &Rows, told: &Told) -> Result<String, Memory>
     words(alloc, &line)
 }
 
-/// Returns what stands in the first row.
+/// Returns the content of the first row.
 fn head_row(alloc: Global, head: &str) -> Result<String, Memory>
     ensures { IfOk result (λ text. string_bytes text ≡ drawn.head_row head.now) }
 {
     format!(in alloc; "<text x=\"20\" y=\"18\" class=\"head\">{head}</text>")
 }
 
-/// Returns what stands in the row of an entry.
+/// Returns the content of the row of a timeline item.
 fn told_row(alloc: Global, rows: &Rows, told: &Told) -> Result<String, Memory>
     ensures { (J : History) → StandsFor rows.now.sheet J → IfOk result
         (λ text. string_bytes text ≡ drawn.told_row J told.now) }
@@ -179,7 +179,7 @@ struct Drawing {
 }
 
 impl Drawing {
-    /// No row yet.
+    /// Makes a drawing without rows.
     fn new(alloc: Global) -> Drawing
         ensures { Draws result [] }
     {
@@ -201,7 +201,7 @@ impl Drawing {
         Ok(())
     }
 
-    /// Adds the row of a note, where something is noted.
+    /// Adds the row of a note, unless the note is empty.
     fn put_note(&mut self, note: &str) -> Result<(), Memory>
         ensures { (cs : List (List ℕ)) → Draws self.old cs → OnOk result
             (Draws self.new (cs ++ drawn.note_rows note.now)) }
@@ -214,7 +214,7 @@ impl Drawing {
     }
 }
 
-/// Adds the row of each entry that is told.
+/// Adds the row of each timeline item.
 fn put_told(drawing: &mut Drawing, rows: &Rows, told: &[Told]) -> Result<(), Memory>
     ensures { (J : History) (cs : List (List ℕ)) → StandsFor rows.now.sheet J → Draws drawing.old cs
         → OnOk result (Draws drawing.new (cs ++ map (drawn.told_row J) told.now)) }
@@ -226,7 +226,7 @@ fn put_told(drawing: &mut Drawing, rows: &Rows, told: &[Told]) -> Result<(), Mem
     Ok(())
 }
 
-/// Adds the row of each note.
+/// Adds the row of each note that isn't empty.
 fn put_notes(drawing: &mut Drawing, notes: &[String]) -> Result<(), Memory>
     ensures { (cs : List (List ℕ)) → Draws drawing.old cs → OnOk result
         (Draws drawing.new (cs ++ flat_map drawn.note_rows (map string_bytes notes.now))) }
@@ -237,7 +237,7 @@ fn put_notes(drawing: &mut Drawing, notes: &[String]) -> Result<(), Memory>
     Ok(())
 }
 
-/// Returns what the picture begins with.
+/// Returns the opening of the picture, with its size and its title.
 fn opening(alloc: Global, head: &str, height: u64) -> Result<String, Memory>
     ensures { IfOk result (λ text. string_bytes text ≡ drawn.opening head.now height) }
 {
@@ -246,14 +246,14 @@ fn opening(alloc: Global, head: &str, height: u64) -> Result<String, Memory>
     )
 }
 
-/// The lanes of the members and of the nested actions.
+/// Returns the lanes of the members and of the nested actions.
 fn lanes(alloc: Global, height: u64) -> Result<String, Memory>
     ensures { IfOk result (λ text. string_bytes text ≡ drawn.lanes height) }
 {
     format!(in alloc; "<path class=\"lane\" d=\"M56 26V{height}M84 26V{height}\"/>\n")
 }
 
-/// A picture of the rows that are drawn.
+/// Returns the picture of the rows that are drawn.
 fn framed(drawing: &Drawing, head: &str) -> Result<String, Memory>
     ensures { (cs : List (List ℕ)) → Draws drawing.now cs → IfOk result
         (λ text. string_bytes text ≡ drawn.framed head.now cs) }
@@ -265,7 +265,7 @@ fn framed(drawing: &Drawing, head: &str) -> Result<String, Memory>
     format!(in drawing.alloc; "{opening}{LOOKS}{lanes}{rows}</svg>\n")
 }
 
-/// The picture of a story: how the action is now, what is told of it, and what is noted at the end.
+/// Draws a timeline: the head line with the action's status, the items, and the notes.
 pub(crate) fn draw(
     alloc: Global,
     rows: &Rows,

@@ -1,5 +1,5 @@
-//! Story of one action of a journal, told in sentences or drawn; and a line for each action of one, with what it waits
-//! for.
+//! Timeline of one action of a journal, in sentences or as a picture; and a list of a journal's actions, with what each
+//! waits for.
 #![tactic(auto)]
 
 mod calls;

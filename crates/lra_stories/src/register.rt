@@ -1,5 +1,5 @@
-//! Facts that a listing of actions wants to know beside their statuses: the journal's instance, when each action
-//! started, the last moment, and, where it is asked for, the calls that tell what the actions wait for.
+//! Data that a listing of actions needs beside their statuses: the journal's instance, when each action started, the
+//! last moment, and, if they are wanted, the calls that show what the actions wait for.
 
 ghost use Rattle.std.specs.Prelude.{◌≡◌, ◌++◌, OnOk, None, option_map, option_to_list};
 ghost use Rattle.lra_entries.specs.Borrowed.{entry_seen};
@@ -11,21 +11,21 @@ use lra_journal::{DeedRef, EntryRef};
 use lra_model::{Instance, Memory, Version};
 use std::alloc::Global;
 
-/// When the actions of a journal started, in their order.
+/// Data of a journal for a listing, with the moments at which its actions started, in the order of their numbers.
 #[derive(Drop)]
 pub(crate) struct Register {
     pub(crate) instance: Option<Instance>,
     pub(crate) starts: Vec<u64>,
-    /// The moment of the last entry.
+    /// Moment of the last entry, in milliseconds; 0 before the first one.
     pub(crate) last: u64,
-    /// Where it is told what actions wait for.
+    /// Calls of the actions' members, if the listing says what actions wait for.
     pub(crate) calls: Option<Calls>,
 }
 
 impl Register {
     ghost use Rattle.lra_stories.specs.inner.Registered.{Hears};
 
-    /// No entry yet; whether calls are kept.
+    /// Makes a register of no entry. It gathers calls if `keeps_calls` is set.
     pub(crate) fn new(alloc: Global, keeps_calls: bool) -> Register
         ensures { Hears result None }
     {
@@ -38,7 +38,7 @@ impl Register {
     }
 }
 
-/// The moment of an entry that starts an action.
+/// Returns the moment of an entry if it starts an action.
 fn started_at(entry: &EntryRef<'_>) -> Option<u64>
     ensures { result ≡ option_map (λ b. b.moment) (begun_by (entry_seen entry.now)) }
 {

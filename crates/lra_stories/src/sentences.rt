@@ -1,4 +1,4 @@
-//! The sentences in which facts are told.
+//! Sentences of a timeline.
 
 ghost use Rattle.std.specs.Prelude.{◌≡◌, IfOk, string_bytes};
 ghost use Rattle.std.specs.Option.{option_copied};
@@ -15,7 +15,7 @@ use lra_packed::Packed;
 use lra_rows::Rows;
 use std::alloc::Global;
 
-/// Which action it is nested in, if it is.
+/// Returns the words for the parent of an action, or an empty text if it isn't nested.
 fn below_text(alloc: Global, parent: Option<u64>) -> Result<String, Memory>
     ensures { IfOk result (λ text. string_bytes text ≡ sentences.below_text parent) }
 {
@@ -25,7 +25,7 @@ fn below_text(alloc: Global, parent: Option<u64>) -> Result<String, Memory>
     }
 }
 
-/// Which limit it has, if it has one.
+/// Returns the words for a limit in milliseconds, or an empty text if it is 0.
 fn limit_text(alloc: Global, limit: u64) -> Result<String, Memory>
     ensures { IfOk result (λ text. string_bytes text ≡ sentences.limit_text limit) }
 {
@@ -51,7 +51,7 @@ fn started_text(
     format!(in alloc; "started by clerk {by} at {moment}{below}{limit}")
 }
 
-/// Why an action is closed.
+/// Returns the reason why an action is closed.
 fn close_reason(cause: Cause) -> &'static str
     ensures { result.now ≡ sentences.close_reason cause }
 {
@@ -62,7 +62,7 @@ fn close_reason(cause: Cause) -> &'static str
     }
 }
 
-/// Why an action is cancelled.
+/// Returns the reason why an action is cancelled.
 fn cancel_reason(cause: Cause) -> &'static str
     ensures { result.now ≡ sentences.cancel_reason cause }
 {
@@ -73,7 +73,7 @@ fn cancel_reason(cause: Cause) -> &'static str
     }
 }
 
-/// Why an action has this status, for a reason.
+/// Returns the sentence that says that an action has a status, and why.
 fn turned_text(alloc: Global, reason: &str, status: ActionStatus) -> Result<String, Memory>
     ensures { IfOk result (λ text. string_bytes text ≡ sentences.turned_text reason.now status) }
 {
@@ -81,7 +81,7 @@ fn turned_text(alloc: Global, reason: &str, status: ActionStatus) -> Result<Stri
     format!(in alloc; "{reason}: it is {status}")
 }
 
-/// Returns how an action ended, and why so.
+/// Returns the sentence that says how an action ended, and why.
 fn ended_text(alloc: Global, status: ActionStatus) -> Result<String, Memory>
     ensures { IfOk result (λ text. string_bytes text ≡ sentences.ended_text status) }
 {
@@ -93,14 +93,14 @@ fn ended_text(alloc: Global, status: ActionStatus) -> Result<String, Memory>
     }
 }
 
-/// An address with its name.
+/// Returns the words for an address, with its name.
 fn named_text(alloc: Global, name: &str, address: &str) -> Result<String, Memory>
     ensures { IfOk result (λ text. string_bytes text ≡ sentences.named_text name.now address.now) }
 {
     format!(in alloc; ", {name} {address}")
 }
 
-/// An address that a member joined with, where it has it.
+/// Returns the words for an address of a member, or an empty text if it has none of that name.
 fn address_text(alloc: Global, name: &str, address: Option<&str>) -> Result<String, Memory>
     ensures { IfOk result (λ text. string_bytes text ≡ sentences.address_text name.now (option_copied address.entry)) }
 {
@@ -110,7 +110,7 @@ fn address_text(alloc: Global, name: &str, address: Option<&str>) -> Result<Stri
     }
 }
 
-/// The addresses that a member joined with.
+/// Returns the words for the addresses with which a member joined.
 fn addresses_text(alloc: Global, uris: &Packed) -> Result<String, Memory>
     ensures { IfOk result (λ text. string_bytes text ≡ sentences.addresses_text uris.now) }
 {
@@ -122,7 +122,7 @@ fn addresses_text(alloc: Global, uris: &Packed) -> Result<String, Memory>
     format!(in alloc; "{compensate}{complete}{status}{forget}{after}")
 }
 
-/// That a member joined, and with which addresses.
+/// Returns the sentence that says that a member joined, and with which addresses.
 fn joined_text(alloc: Global, rows: &Rows, member: u64) -> Result<String, Memory>
     ensures { (J : History) → StandsFor rows.now.sheet J → IfOk result
         (λ text. string_bytes text ≡ sentences.joined_text member (found_addresses J member)) }
@@ -136,7 +136,7 @@ fn joined_text(alloc: Global, rows: &Rows, member: u64) -> Result<String, Memory
     }
 }
 
-/// Returns what a member is asked.
+/// Returns the words for a kind of ask.
 pub(crate) fn ask_words(kind: AskKind) -> &'static str
     ensures { result.now ≡ sentences.ask_words kind }
 {
@@ -156,7 +156,7 @@ fn asked_text(alloc: Global, ask: u64, member: u64, kind: AskKind) -> Result<Str
     format!(in alloc; "member {member} is {words} (ask {ask})")
 }
 
-/// Returns what a member says that has done what a stage is for.
+/// Returns the words for the success of a member in a stage.
 fn done_words(stage: AskKind) -> &'static str
     ensures { result.now ≡ sentences.done_words stage }
 {
@@ -169,7 +169,7 @@ fn done_words(stage: AskKind) -> &'static str
     }
 }
 
-/// Returns what a member says that couldn't do what a stage is for.
+/// Returns the words for the failure of a member in a stage.
 fn failed_words(stage: AskKind) -> &'static str
     ensures { result.now ≡ sentences.failed_words stage }
 {
@@ -182,7 +182,7 @@ fn failed_words(stage: AskKind) -> &'static str
     }
 }
 
-/// Returns what a member says.
+/// Returns the words for an outcome of a member in a stage.
 fn outcome_words(stage: AskKind, outcome: Outcome) -> &'static str
     ensures { result.now ≡ sentences.outcome_words stage outcome }
 {
@@ -194,21 +194,21 @@ fn outcome_words(stage: AskKind, outcome: Outcome) -> &'static str
     }
 }
 
-/// Returns whether a member gave no answer.
+/// Returns whether an outcome is that the member gave no answer.
 pub(crate) fn is_silent(outcome: Outcome) -> bool
     ensures { result ≡ is_silent outcome }
 {
     matches!(outcome, Outcome::Silent)
 }
 
-/// That a member gave no answer.
+/// Returns the sentence that says that a member gave no answer.
 fn silent_text(alloc: Global, ask: u64, member: u64) -> Result<String, Memory>
     ensures { IfOk result (λ text. string_bytes text ≡ sentences.silent_text ask member) }
 {
     format!(in alloc; "member {member} gave no answer to ask {ask}")
 }
 
-/// Returns what a member answered.
+/// Returns the sentence that says what a member answered.
 fn said_text(alloc: Global, member: u64, stage: AskKind, outcome: Outcome) -> Result<String, Memory>
     ensures { IfOk result (λ text. string_bytes text ≡ sentences.said_text member stage outcome) }
 {
@@ -274,7 +274,7 @@ fn nested_ended_text(alloc: Global, action: u64, status: ActionStatus) -> Result
     format!(in alloc; "action {action} below it is {status}")
 }
 
-/// Returns what is told of a fact, where the action has this status after it.
+/// Returns the sentence of a timeline item after which the action has this status.
 fn fact_text(alloc: Global, rows: &Rows, status: ActionStatus, fact: Fact) -> Result<String, Memory>
     ensures { (J : History) → StandsFor rows.now.sheet J → IfOk result
         (λ text. string_bytes text ≡ sentences.fact_text J status fact) }
@@ -315,7 +315,7 @@ fn fact_text(alloc: Global, rows: &Rows, status: ActionStatus, fact: Fact) -> Re
     }
 }
 
-/// The line that tells of an entry.
+/// Returns the line of a timeline item.
 pub(crate) fn told_line(alloc: Global, rows: &Rows, told: &Told) -> Result<String, Memory>
     ensures { (J : History) → StandsFor rows.now.sheet J → IfOk result
         (λ text. string_bytes text ≡ sentences.told_line J told.now) }
@@ -325,7 +325,7 @@ pub(crate) fn told_line(alloc: Global, rows: &Rows, told: &Told) -> Result<Strin
     format!(in alloc; "line {line}: {words}\n")
 }
 
-/// The line that tells how an action is now.
+/// Returns the head line, which says what status an action has now.
 pub(crate) fn head_line(
     alloc: Global,
     action: u64,

@@ -1,4 +1,4 @@
-//! Number of an action's members that have each status.
+//! Counts of an action's members by their status.
 
 ghost use Rattle.std.specs.Prelude.{
   ◌≡◌,
@@ -36,7 +36,7 @@ const STATUSES: [MemberStatus; 8] = [
     MemberStatus::Left,
 ];
 
-/// The place of a status among all.
+/// Returns the index of a status in `STATUSES`.
 fn place_of(status: MemberStatus) -> usize
     ensures place { result ≡ lines.place_of status }
     ensures small { result < 8 }
@@ -53,8 +53,8 @@ fn place_of(status: MemberStatus) -> usize
     }
 }
 
-/// Where the count of an action's members stands that have the status of a place: there are eight counts an action, in
-/// the order of their numbers.
+/// Returns the index of the count of an action's members that have the status of a place. Each action has eight counts,
+/// in the order of the actions' numbers.
 fn slot_of(action: u64, place: usize) -> Option<usize>
     ensures { IfSome result (λ slot. slot + 8 ≡ 8 * action + place) }
 {
@@ -62,7 +62,7 @@ fn slot_of(action: u64, place: usize) -> Option<usize>
     row.checked_mul(8)?.checked_add(place)
 }
 
-/// Counts a member in its action.
+/// Counts a member for its action and its status.
 fn count(counts: &mut Vec<u64>, member: &ListedMember) -> Result<(), Memory>
     ensures { OnOk result (IsMore member.now counts.old.items counts.new.items) }
 {
@@ -79,7 +79,7 @@ fn count(counts: &mut Vec<u64>, member: &ListedMember) -> Result<(), Memory>
     Ok(())
 }
 
-/// As many counts as so many actions have, of which each is 0.
+/// Makes the counts of a number of actions, each 0.
 fn zeros(alloc: Global, actions: u64) -> Result<Vec<u64>, Memory>
     ensures { IfOk result (λ counts. (slot : ℕ) → get_or counts.items slot 0 ≡ 0) }
 {
@@ -92,7 +92,7 @@ fn zeros(alloc: Global, actions: u64) -> Result<Vec<u64>, Memory>
     }
 }
 
-/// Counts how many members of each action have each status.
+/// Counts the members of each action by their status.
 pub(crate) fn tallies_of(alloc: Global, listing: &Listing) -> Result<Vec<u64>, Memory>
     ensures { IfOk result (λ counts. Tallied listing.now.members counts.items) }
 {
@@ -106,7 +106,7 @@ pub(crate) fn tallies_of(alloc: Global, listing: &Listing) -> Result<Vec<u64>, M
     Ok(counts)
 }
 
-/// Returns how many members of an action have a status.
+/// Returns the number of members of an action that have a status.
 fn count_at(counts: &[u64], action: u64, status: MemberStatus) -> Result<u64, Memory>
     ensures { (ms : List ListedMemberValue) → Tallied ms counts.now → IfOk result
         (λ count. count ≡ lines.count_of ms action (lines.place_of status)) }
@@ -120,7 +120,7 @@ fn count_at(counts: &[u64], action: u64, status: MemberStatus) -> Result<u64, Me
     }
 }
 
-/// Adds a status with how many members have it, where any has.
+/// Adds the word for a status and the number of members that have it, unless that is 0.
 fn push_counted(
     alloc: Global,
     words: &mut Vec<String>,
@@ -139,7 +139,7 @@ fn push_counted(
     Ok(())
 }
 
-/// The words of a text, with commas between them, or `*` where there is none.
+/// Joins words with commas. Returns `*` if there is none.
 fn listed_words(alloc: Global, words: &[String]) -> Result<String, Memory>
     ensures { IfOk result (λ text. string_bytes text ≡ lines.listed_words (map string_bytes words.now)) }
 {
@@ -150,7 +150,8 @@ fn listed_words(alloc: Global, words: &[String]) -> Result<String, Memory>
     }
 }
 
-/// Returns how many members of an action have each status that one has, or `*` where it has no member.
+/// Returns the text of an action's counts: each status that a member has, with its number of members. Returns `*` if
+/// the action has no member.
 pub(crate) fn tally_text(alloc: Global, counts: &[u64], action: u64) -> Result<String, Memory>
     ensures { (ms : List ListedMemberValue) → Tallied ms counts.now → IfOk result
         (λ text. string_bytes text ≡ lines.tally_text (lines.count_of ms action)) }

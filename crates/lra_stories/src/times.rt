@@ -1,4 +1,4 @@
-//! Moments and lengths of time, as texts.
+//! Texts of moments and durations.
 
 ghost use Rattle.std.specs.Prelude.{◌≡◌, ◌<◌, ◌≤◌, ◌^◌, IfOk, string_bytes};
 ghost use Rattle.lra_stories.specs.Times as times;
@@ -12,7 +12,7 @@ const DAY: u64 = 86_400_000;
 /// Number of milliseconds from 1970 to the year 10000.
 const YEARS: u64 = 253_402_300_800_000;
 
-/// A date of the Gregorian calendar.
+/// Date of the Gregorian calendar.
 #[derive(Clone, Copy)]
 pub(crate) struct Date {
     year: u64,
@@ -20,7 +20,7 @@ pub(crate) struct Date {
     day: u64,
 }
 
-/// The year of a day of four hundred years that begin with March.
+/// Returns the year of a day in a cycle of 400 years that each begin with March. Both count from 0.
 fn year_of(day: u64) -> u64
     requires { day < 146097 }
     ensures value { result ≡ times.year_of day }
@@ -30,7 +30,7 @@ fn year_of(day: u64) -> u64
     leap / 365
 }
 
-/// Which day of a year that begins with March a day of four hundred years is.
+/// Returns the position of a day of such a cycle within its year, counted from 0.
 fn day_of_year(day: u64) -> u64
     requires { day < 146097 }
     ensures value { result ≡ times.day_of_year day }
@@ -40,7 +40,7 @@ fn day_of_year(day: u64) -> u64
     (day + year / 100).saturating_sub(365 * year + year / 4)
 }
 
-/// The date of a day, counted from 1970.
+/// Returns the date of a day, counted from 0 at the beginning of 1970.
 fn date_of(days: u64) -> Date
     requires { days < 2932897 }
     ensures { result ≡ times.date_of days }
@@ -66,7 +66,7 @@ fn date_of(days: u64) -> Date
     }
 }
 
-/// A date as `2026-11-26`.
+/// Formats a date as `2026-11-26`.
 fn date_text(alloc: Global, date: Date) -> Result<String, Memory>
     ensures { IfOk result (λ text. string_bytes text ≡ times.date_text date) }
 {
@@ -76,7 +76,7 @@ fn date_text(alloc: Global, date: Date) -> Result<String, Memory>
     format!(in alloc; "{year}-{months}{month}-{days}{day}")
 }
 
-/// Hours and minutes of a day's minute, as `22:15`.
+/// Formats a minute of a day as `22:15`.
 fn minute_text(alloc: Global, minute: u64) -> Result<String, Memory>
     ensures { IfOk result (λ text. string_bytes text ≡ times.minute_text minute) }
 {
@@ -85,7 +85,7 @@ fn minute_text(alloc: Global, minute: u64) -> Result<String, Memory>
     format!(in alloc; "{tens}{hour}:{minutes}{minute}")
 }
 
-/// Seconds and milliseconds of a minute's millisecond, as `01.250`.
+/// Formats a millisecond of a minute as seconds with three places: `01.250`.
 fn second_text(alloc: Global, milliseconds: u64) -> Result<String, Memory>
     ensures { IfOk result (λ text. string_bytes text ≡ times.second_text milliseconds) }
 {
@@ -98,7 +98,7 @@ fn second_text(alloc: Global, milliseconds: u64) -> Result<String, Memory>
     format!(in alloc; "{seconds}{second}.{tenths}{hundredths}{thousandths}")
 }
 
-/// A moment before the year 10000, by RFC 3339.
+/// Formats a moment before the year 10000 by RFC 3339.
 fn full_text(alloc: Global, moment: u64) -> Result<String, Memory>
     requires { moment < 253402300800000 }
     ensures { IfOk result (λ text. string_bytes text ≡ times.full_text moment) }
@@ -109,7 +109,7 @@ fn full_text(alloc: Global, moment: u64) -> Result<String, Memory>
     format!(in alloc; "{date}T{minute}:{second}Z")
 }
 
-/// A moment by RFC 3339, or as its number of milliseconds from the year 10000 on.
+/// Formats a moment by RFC 3339, or from the year 10000 on as its number of milliseconds.
 pub(crate) fn moment_text(alloc: Global, moment: u64) -> Result<String, Memory>
     ensures { IfOk result (λ text. string_bytes text ≡ times.moment_text moment) }
 {
@@ -120,7 +120,7 @@ pub(crate) fn moment_text(alloc: Global, moment: u64) -> Result<String, Memory>
     }
 }
 
-/// So many milliseconds as seconds with three places.
+/// Formats a number of milliseconds as seconds with three places.
 pub(crate) fn seconds_text(alloc: Global, milliseconds: u64) -> Result<String, Memory>
     ensures { IfOk result (λ text. string_bytes text ≡ times.seconds_text milliseconds) }
 {
@@ -133,7 +133,7 @@ pub(crate) fn seconds_text(alloc: Global, milliseconds: u64) -> Result<String, M
     format!(in alloc; "{seconds}.{tenths}{hundredths}{thousandths}")
 }
 
-/// So many milliseconds, in seconds.
+/// Formats a number of milliseconds as seconds with three places and the unit.
 pub(crate) fn length_text(alloc: Global, milliseconds: u64) -> Result<String, Memory>
     ensures { IfOk result (λ text. string_bytes text ≡ times.length_text milliseconds) }
 {

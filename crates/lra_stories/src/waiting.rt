@@ -1,4 +1,4 @@
-//! Lines that tell what the actions of a listing wait for.
+//! Lines that say what the listed actions wait for.
 
 ghost use Rattle.std.specs.Prelude.{◌≡◌, ◌++◌, IfOk, OnOk, map, string_bytes};
 ghost use Rattle.std.specs.List.{flat_map};
@@ -11,7 +11,7 @@ use crate::waits::{Known, notes_of};
 use lra_model::Memory;
 use std::alloc::Global;
 
-/// A line that is noted of an action, behind a prefix and two spaces; nothing, where nothing is noted.
+/// Returns a note after a prefix and two spaces. Returns an empty text if the note is empty.
 fn indented(alloc: Global, prefix: &str, note: &str) -> Result<String, Memory>
     ensures { IfOk result (λ text. string_bytes text ≡ lines.indented prefix.now note.now) }
 {
@@ -21,7 +21,7 @@ fn indented(alloc: Global, prefix: &str, note: &str) -> Result<String, Memory>
     format!(in alloc; "{prefix}  {note}")
 }
 
-/// Lines that are noted of an action, each behind a prefix and two spaces.
+/// Returns notes, each after a prefix and two spaces.
 fn indented_all(alloc: Global, prefix: &str, notes: &[String]) -> Result<String, Memory>
     ensures { IfOk result (λ text.
         string_bytes text ≡ flat_map (lines.indented prefix.now) (map string_bytes notes.now)) }
@@ -34,8 +34,8 @@ fn indented_all(alloc: Global, prefix: &str, notes: &[String]) -> Result<String,
     Ok(text)
 }
 
-/// Returns what an action of a journal waits for, by what was kept of the journal: an indented line each, behind a
-/// prefix.
+/// Returns the lines that say what an action of a journal waits for, each indented after a prefix. Returns an empty
+/// text if the action doesn't exist.
 pub(crate) fn waits_text(
     alloc: Global,
     calls: &Calls,

@@ -1,4 +1,4 @@
-//! Which action is asked for.
+//! Parser of the names of actions on the command line.
 
 ghost use Rattle.std.specs.Prelude.{
   ◌≡◌,
@@ -33,14 +33,14 @@ const ACTIONS: &str = "lra-coordinator/";
 /// Number of characters of the text of an identifier.
 const ID_LENGTH: usize = 36;
 
-/// The action of a number, in the journal of an instance or in any.
+/// Wanted action: its number, and its journal's instance. None is any instance.
 #[derive(Clone, Copy)]
 pub struct Wanted {
     pub action: u64,
     pub instance: Option<Instance>,
 }
 
-/// The action of which a text is the number.
+/// Reads the number of an action.
 fn of_number(text: &str) -> Option<Wanted>
     ensures found { IfSome result (IsWanted text.now) }
     ensures none { IfNone result ((a : ℕ) → a < 2 ^ 64 → text.now ≢ decimal a) }
@@ -52,7 +52,7 @@ fn of_number(text: &str) -> Option<Wanted>
     })
 }
 
-/// The action of which a text is the UUID.
+/// Reads the UUID of an action.
 fn of_id(text: &str) -> Option<Wanted>
     ensures found { IfSome result (IsId text.now) }
     ensures none { IfNone result (IsNoId text.now) }
@@ -65,7 +65,7 @@ fn of_id(text: &str) -> Option<Wanted>
     })
 }
 
-/// The base of a URI, by what stands before its identifier.
+/// Returns the base of an action's URI, by the text before the identifier. Returns None if that isn't such a URI.
 fn base_in(front: &[u8]) -> Option<&[u8]>
     ensures { MatchOption result ((base : List ℕ) → front.now ≢ base ++ codes "lra-coordinator/")
         (λ base. front.now ≡ base.now ++ codes "lra-coordinator/") }
@@ -73,7 +73,7 @@ fn base_in(front: &[u8]) -> Option<&[u8]>
     front.strip_suffix(ACTIONS.as_bytes())
 }
 
-/// The identifier at the end of the URI of an action, whatever its base.
+/// Returns the identifier at the end of the URI of an action, whatever its base.
 fn id_at_end(uri: &str) -> Option<&str>
     ensures found { IfSome result (λ id. (base : List ℕ) × (uri.now ≡ base ++ codes "lra-coordinator/" ++ id.now)) }
     ensures end { IfSome result (λ id. id.now ≡ drop (length uri.now - 36) uri.now) }
@@ -88,7 +88,7 @@ fn id_at_end(uri: &str) -> Option<&str>
     }
 }
 
-/// The action of which a text is the URI.
+/// Reads the URI of an action.
 fn of_uri(text: &str) -> Option<Wanted>
     ensures found { IfSome result (IsWanted text.now) }
     ensures none { IfNone result (IsNoUri text.now) }
@@ -97,7 +97,7 @@ fn of_uri(text: &str) -> Option<Wanted>
     of_id(id)
 }
 
-/// The action that a word of the command line names: by its number, by its UUID, or by its whole URI.
+/// Reads the action that a word of the command line names: by its number, by its UUID, or by its whole URI.
 pub fn read_wanted(text: &str) -> Option<Wanted>
     ensures found { IfSome result (IsWanted text.now) }
     ensures none { IfNone result (NamesNone text.now) }

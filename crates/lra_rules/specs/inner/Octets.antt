@@ -1,4 +1,4 @@
--- What an address has that is no IPv4-mapped one.
+-- The octets and the width of an address that isn't an IPv4-mapped one.
 use Rattle.std.specs.Prelude.{ℕ, List}
 use Rattle.std.specs.Net.Addr.{ipv4_octets, ipv6_octets}
 use Rattle.std.specs.declared.net.ip_addr.IpAddr.{IpAddr}

@@ -1,4 +1,4 @@
--- What was read of a text.
+-- The results of the parser, as the definitions of rules see them.
 use Rattle.std.specs.Prelude.{◌≡◌, ◌⊎◌, ℕ, List, Result, Ok, Err, Vec}
 use Rattle.std.specs.declared.alloc.Global.{Global}
 use Rattle.lra_rules.specs.declared.fault.RuleFault.{RuleFault}
@@ -7,7 +7,7 @@ use Rattle.lra_rules.specs.declared.reading.Hosts.{Hosts}
 use Rattle.lra_rules.specs.declared.reading.Hosts.TheVariants.{Any, Named, Within}
 use Rattle.lra_rules.specs.declared.reading.Reading.{Reading}
 
--- with the bytes of a name
+-- hosts, with a name as the list of its bytes
 abbrev pub seen_hosts : Hosts (Vec ℕ Global) → Hosts (List ℕ)
 seen_hosts Any = Any
 seen_hosts (Named name) = Named name.items

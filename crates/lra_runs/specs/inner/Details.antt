@@ -1,4 +1,4 @@
--- What a refusal says beside its name.
+-- The detail of a refusal.
 use Rattle.std.specs.Prelude.{ℕ, List, [], ◌++◌, codes, Option, Some, None}
 
 -- a detail with a space before it, if there is one

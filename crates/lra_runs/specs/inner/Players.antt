@@ -1,4 +1,4 @@
--- A player between two lines, and what it does with one.
+-- The state of a player between two lines, and its change by a line.
 use Rattle.std.specs.Prelude.{◌≡◌, ◌≤◌, ◌+◌, ℕ, Bool, true, false, List, length, Option, Some, None, nat_eq}
 use Rattle.std.specs.HashMap.{HashMap, get}
 use Rattle.std.specs.Io.KnownBytes.{Appends}
@@ -29,27 +29,27 @@ Shelf = HashMap ℕ Asking (BuildHasherDefault FoldHasher)
 abbrev pub holding : Shelf → Holding
 holding m = λ ask. get nat_eq m ask
 
--- what there is between two lines
+-- the state of a player between two lines
 abbrev pub stage_of : Player → Stage
 stage_of p = record { history = p.coordinator.history; held = holding p.held }
 
--- the errand that a request is about, where it is held
+-- the errand that a reply is about, if it is held
 abbrev pub held_for : Holding → Request → Option Asking
 held_for held (request.Reply ask outcome) = held ask
 held_for held _ = None
 
--- the addresses with which a member is to join
+-- the addresses of a request to join
 abbrev pub uris_in : Request → Option Addresses
 uris_in (request.Join action uris) = Some uris
 uris_in _ = None
 
--- a command, whatever it borrows from
+-- a command, apart from the addresses in memory of what it borrows
 abbrev pub placed : Command → Command
 placed (Join action uris) = Join action (lent uris.now)
 placed (Record errand outcome) = Record (lent errand.now) outcome
 placed c = c
 
--- what came of a call, and what was written of it
+-- a call was performed: its outcome, and the output for it
 pub record IsPerformed (before : Shape) (c : Call) (after : Shape) (x : Performed) (was now : Option (List ℕ)) : Type 0
   where
     pub refused : x.is_refused ≡ is_err (answer (terms_of player) before.history c)
@@ -57,7 +57,7 @@ pub record IsPerformed (before : Shape) (c : Call) (after : Shape) (x : Performe
     pub grown : IsGrown before after (after_call (terms_of player) before.history c)
     pub written : Appends was now (call_text before.history c)
 
--- a line was played: whether it was refused, what there is after it, and what was written of it
+-- a line was played: whether it was refused, the state after it, and the output for it
 pub record IsPlayedLine (s : Stage) (l : RequestLine) (t : Stage) (is_refused : Bool)
     (was now : Option (List ℕ)) : Type 0 where
   pub playable : is_playable s l ≡ true
@@ -65,12 +65,12 @@ pub record IsPlayedLine (s : Stage) (l : RequestLine) (t : Stage) (is_refused : 
   pub stage : t ≡ after_line s l
   pub written : Appends was now (played_line s l)
 
--- a line was played; or it can't be, and nothing was written
+-- a line was played; or it can't be played, and nothing was written
 abbrev pub ComesTo : Stage → RequestLine → Stage → Option (List ℕ) → Option (List ℕ) → Option Bool → Type 0
 ComesTo s l t was now None = (is_playable s l ≡ false) × (now ≡ was)
 ComesTo s l t was now (Some is_refused) = IsPlayedLine s l t is_refused was now
 
--- lines were read and played, what they print was written, and the rest is to come
+-- lines were read and played, their output was written, and the rest is left to read
 pub record IsPlayed (script : List ℕ) (before now : Option (List ℕ)) (p : Player) (is_refused : Bool) (number : ℕ)
     (rest : List ℕ) : Type 0 where
   pub lines : List RequestLine

@@ -1,5 +1,5 @@
--- The grammar of a script's lines from the other side (this project's own format): what the words of a line say, from
--- left to right. Where a word says nothing, the line isn't one that a script may have.
+-- The parser of a script's lines (this project's own format), from left to right. If a word can't be read, the line
+-- isn't one that a script may have.
 use Rattle.std.specs.Prelude.{ℕ, ◌^◌, ◌==◌, List, ◌∷◌, [], Option, Some, None, codes, option_map, if◌then◌else◌}
 use Rattle.std.specs.Str.{bytes_eq, is_utf8}
 use Rattle.lra_model.specs.declared.asks.Outcome.{Outcome}
@@ -19,7 +19,7 @@ use Rattle.lra_runs.specs.declared.requests.RequestName.TheVariants as name
 use Rattle.lra_runs.specs.declared.requests.RequestLine.{RequestLine}
 use Rattle.lra_runs.specs.Requests.{is_script_address}
 
--- the word of a request, as `request_words` begins with it
+-- the word with which `request_words` begins
 abbrev pub request_name : RequestName → List ℕ
 request_name name.Enrol = codes "enrol"
 request_name name.Start = codes "start"
@@ -49,7 +49,7 @@ outcomes = outcome.Done ∷ outcome.Accepted ∷ outcome.Failed ∷ outcome.Sile
 abbrev pub endings : List Ending
 endings = ending.Completed ∷ ending.FailedToComplete ∷ ending.Compensated ∷ ending.FailedToCompensate ∷ []
 
--- the address that a word is, or nothing where the word is `*`
+-- the address that a word is; `*` is an absent one
 unfoldable pub address_field : List ℕ → Option (Option (List ℕ))
 address_field word = if bytes_eq word (codes "*") then Some None else (if is_script_address word then Some
     (Some word) else None)
@@ -78,7 +78,7 @@ addresses_at words = do
     after.1,
   )
 
--- who enrols has no number yet, which is written 0
+-- the fields of `enrol`: none; a clerk that enrols has no number yet, which is written 0
 abbrev pub enrol_at : ℕ → Words → Option (Request × Words)
 enrol_at by words = if by == 0 then Some (request.Enrol, words) else None
 
@@ -96,7 +96,7 @@ join_at words = do
   uris ← addresses_at action.1
   Some (request.Join action.0 uris.0, uris.1)
 
--- two numbers: what `leave` and `renew` have
+-- two numbers: the fields of `leave` and `renew`
 unfoldable pub pair_at : Words → Option ((ℕ × ℕ) × Words)
 pair_at words = do
   first ← number_at (2 ^ 64) words
@@ -117,7 +117,7 @@ report_at words = do
   ending ← next_of (named ending_name endings) member.1
   Some (request.Report member.0 ending.0, ending.1)
 
--- the fields behind the word of a request that a clerk makes
+-- the fields after the word of a request that a clerk makes
 unfoldable pub fields_at : ℕ → RequestName → Words → Option (Request × Words)
 fields_at by name.Enrol words = enrol_at by words
 fields_at by name.Start words = start_at words
@@ -148,13 +148,13 @@ request_line_at words = do
   request ← request_at by.0 moment.1
   Some (record { by = by.0; moment = moment.0; request = request.0 }, request.1)
 
--- the text of a line before its line feed, if it is one
+-- the text of a line before its line feed, if it is UTF-8
 unfoldable pub text_of : List ℕ → Option (List ℕ)
 text_of bytes = do
   body ← unended bytes
   if is_utf8 body then Some body else None
 
--- the line of a script that bytes are, if they are one
+-- the line of a script that bytes are, if they are such a line
 unfoldable pub request_line_of : List ℕ → Option RequestLine
 request_line_of bytes = do
   body ← text_of bytes

@@ -1,4 +1,4 @@
--- What is told of the asks of an action's members, and kept of a journal while it is read.
+-- The calls of each action's members, gathered while a journal is read.
 use Rattle.std.specs.Prelude.{◌≡◌, ℕ, ◌==◌, Bool, true, false, List, [], ◌∷◌, filter, slice_get}
 use Rattle.std.specs.Prelude.{Option, Some, None, option_map, unwrap_or, cond}
 use Rattle.std.specs.Option.{option_and_then, option_map_or}
@@ -20,30 +20,30 @@ use Rattle.lra_stories.specs.declared.facts.Fact.TheVariants.{Asked, Answered}
 use Rattle.lra_stories.specs.declared.facts.Told.{Told}
 use Rattle.lra_stories.specs.Facts.{told, status_now}
 
--- whether a fact is an ask, or an answer after which the member is asked again
+-- an item is a call: an ask, or an answer after which the member is asked again
 abbrev pub is_call : Fact → Bool
 is_call (Asked n p kind) = true
 is_call (Answered n p stage o) = is_undecided o
 is_call _ = false
 
--- whether one that is told is
+-- an item with its line is a call
 abbrev pub tells_call : Told → Bool
 tells_call t = is_call t.fact
 
--- these of what is told of an action
+-- the calls in the timeline of an action
 abbrev pub calls : ℕ → History → List Told
 calls a J = filter tells_call (told a J)
 
--- a fact of a member, as one of the member's action
+-- the call for an item of a member, with the member's action
 abbrev pub of_member : History → ℕ → Fact → Option Call
 of_member J p f = option_map (λ (r : MemberRow). record { action = r.action; fact = f }) (found_member J p)
 
--- the answer to an ask, where the member is asked again after it
+-- the call for the answer to an ask, if the member is asked again after it
 abbrev pub of_answer : History → ℕ → Outcome → AskRow → Option Call
 of_answer J n o x =
     cond (is_undecided o) (of_member J x.member (Answered n x.member (stage_of x.kind x.direction) o)) None
 
--- the ask that an entry is after a history, or the answer after which the member is asked again
+-- the call for an entry after a history, if the entry is an ask, or an answer after which the member is asked again
 abbrev pub call_in : History → Entry → Option Call
 call_in J e = of_deed e.deed
   where
@@ -52,22 +52,22 @@ call_in J e = of_deed e.deed
     of_deed (Reply n o) = option_and_then (of_answer J n o) (found_ask J n)
     of_deed _ = None
 
--- what stands at the place of an action's number
+-- the items at the index of an action's number
 abbrev pub kept_at : List (List Told) → ℕ → List Told
 kept_at rows a = unwrap_or (slice_get rows a) []
 
--- one more is kept of an action
+-- the items that an action gets when one more is added to an action: that one if they are the same action, else none
 abbrev pub kept_more : ℕ → Told → ℕ → List Told
 kept_more b t a = cond (b == a) (t ∷ []) []
 
--- what is kept more of an action after an entry at a line and a moment, by the call that the entry is, if it is one
+-- the items that an action gets from an entry at a line and a moment, by the call for that entry, if it has one
 abbrev pub told_call : History → ℕ → ℕ → Option Call → ℕ → List Told
 told_call J line moment o a = option_map_or (λ (c : Call). kept_more c.action (told_as c) a) o []
   where
     told_as : Call → Told
     told_as c = record { line = line; moment = moment; status = status_now J c.action; fact = c.fact }
 
--- rows of a history, and what is told of each action's calls
+-- the calls have the rows of a history, and the items of each action's calls
 pub record Keeps (c : Calls) (J : History) : Type 0 where
   pub sheet : c.rows.sheet ≡ sheet_of J
   pub told : (a : ℕ) → kept_at c.told.items a ≡ calls a J

@@ -1,4 +1,4 @@
--- What a story that follows an audit has heard.
+-- The timeline of an action that follows an audit.
 use Rattle.std.specs.Prelude.{◌≡◌, ℕ, [], Option, Some, None}
 use Rattle.lra_laws.specs.Sheets.{sheet_of, StandsFor}
 use Rattle.lra_model.specs.History.{History}
@@ -6,14 +6,13 @@ use Rattle.lra_auditor.specs.Heard.{Heard}
 use Rattle.lra_stories.specs.declared.story.Story.{Story}
 use Rattle.lra_stories.specs.Facts.{told}
 
--- a story has heard nothing, or a header and the entries of a history: it has rows of them, and what is told of its
--- action
+-- a timeline got nothing; or it got a header and the entries of a history, and has their rows and its action's items
 abbrev pub Hears : Story → Option Heard → Type 0
 Hears s None = (s.rows.sheet ≡ sheet_of []) × (s.told.items ≡ [])
 Hears s (Some h) = (s.instance ≡ Some h.instance) × (s.rows.sheet ≡ sheet_of h.entries)
     × (s.told.items ≡ told s.action h.entries)
 
--- a story of a legal history of an instance
+-- the timeline of an action of a legal history of an instance
 pub record Tells (s : Story) (i : ℕ) (J : History) : Type 0 where
   pub instance : s.instance ≡ Some i
   pub stands : StandsFor s.rows.sheet J

@@ -1,4 +1,4 @@
--- An action that is asked for by its UUID.
+-- Actions that are named by their UUID.
 use Rattle.std.specs.Prelude.{ℕ, ◌<◌, ◌^◌, List, Option, Some, None}
 use Rattle.lra_ids.specs.Identifiers.{IsSpelling, id_text, action_uri}
 use Rattle.lra_stories.specs.declared.wanted.Wanted.{Wanted}
@@ -8,7 +8,7 @@ abbrev pub IsSpelled : List ℕ → ℕ → Option ℕ → Type 0
 IsSpelled text a None = ⊥
 IsSpelled text a (Some i) = IsSpelling (id_text i) text a
 
--- the text is the UUID of what is asked for
+-- the text is the UUID of the wanted action
 abbrev pub IsId : List ℕ → Wanted → Type 0
 IsId text w = IsSpelled text w.action w.instance
 

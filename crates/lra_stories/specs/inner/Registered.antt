@@ -1,4 +1,4 @@
--- What a register that follows an audit has heard.
+-- The register that follows an audit.
 use Rattle.std.specs.Prelude.{◌≡◌, ℕ, List, [], map, Option, Some, None, IfSome, IfNone}
 use Rattle.lra_model.specs.History.{History, last_moment}
 use Rattle.lra_model.specs.declared.version.Version.{Version}
@@ -15,7 +15,7 @@ use Rattle.lra_stories.specs.inner.Called.{Keeps, Called}
 abbrev pub start_moments : History → List ℕ
 start_moments J = map (λ (b : Begun). b.moment) (starts J)
 
--- a register has heard nothing, or a header and the entries of a history
+-- a register got nothing, or a header and the entries of a history
 abbrev pub Hears : Register → Option Heard → Type 0
 Hears r None = (r.starts.items ≡ []) × (r.last ≡ 0) × IfSome r.calls (λ c. Keeps c [])
 Hears r (Some h) =
@@ -31,8 +31,8 @@ pub record Registers (r : Register) (i : ℕ) (J : History) : Type 0 where
   pub end : r.last ≡ last_moment J
   pub called : IfSome r.calls (λ c. Called c J)
 
--- what is said of bytes: their first fault; or, of a legal history's text, what a register has heard of it; and their
--- account
+-- the outcome of an audit of bytes: their first fault, or the register of a legal history that they are the text of;
+-- and their account
 pub record IsSaid (bytes : List ℕ) (fault : Option FaultyLine) (account : Account) (r : Register) : Type 0 where
   pub some : IfSome fault (λ f. IsFault bytes f.line f.rule)
   pub none : IfNone fault ((v : Version) × (i : ℕ) × (J : History) × IsTextOf v i J bytes

@@ -1,9 +1,9 @@
--- Counts of members, eight for each action: one for each status.
+-- Counts of members: eight for each action, one for each status.
 use Rattle.std.specs.Prelude.{◌≡◌, ℕ, ◌+◌, ◌*◌, ◌<◌, List, length, get_or, set}
 use Rattle.lra_course.specs.declared.listing.ListedMember.{ListedMember}
 use Rattle.lra_stories.specs.Lines.{place_of, count_of}
 
--- each count is that of the members of its action that have its status
+-- each count is the number of members of its action that have its status
 abbrev pub Tallied : List ListedMember → List ℕ → Type 0
 Tallied ms counts = (slot a p : ℕ) → slot + 8 ≡ 8 * a + p → p < 8 → slot < length counts → get_or counts slot 0
     ≡ count_of ms a p

@@ -4,7 +4,7 @@ use Rattle.lra_journal.specs.Lines.{lines_of}
 use Rattle.lra_runs.specs.Play.{marked}
 use Rattle.lra_runs.proofs.player.marked_lines.Given as goal
 
--- what was marked, with what is left to mark, is all
+-- the lines marked so far and the marks of the rest are those of all lines
 abbrev pub invariant-loop-rest : goal.invariant-loop-rest
 invariant-loop-rest l = flat_map marked (lines_of l.text) ≡ l.lines.items ++ flat_map marked (lines_of l.rest)
 
