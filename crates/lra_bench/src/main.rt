@@ -1,4 +1,4 @@
-//! Answers one connection that standard input has, for tools that compare the replies with wanted bytes.
+//! Answers one connection, which is read from standard input, for tools that compare the replies with wanted bytes.
 #![tactic(auto)]
 
 mod front;
@@ -12,10 +12,10 @@ front     the replies to one connection: standard input has a journal, an empty 
 pieces    the same as front, by a connection as steps: before the journal stands a line with the sizes in \
 which the bytes come";
 
-/// The status where nothing has that name.
+/// Exit status for an unknown name.
 const UNKNOWN: u8 = 2;
 
-/// Answers as the name says.
+/// Answers the connection in the way of this name.
 fn run(rt: &HostRuntime, name: &str) -> anyhow::Result<ExitCode> {
     match name {
         "front" => front::run(rt, false)?,

@@ -23,27 +23,27 @@ pub const PATIENCE: Patience = Patience {
     reply: 30_000,
 };
 
-/// Count of the errands that were done, and of those that came to something else.
+/// Count of the errands that were done, and of those with another outcome.
 #[derive(Clone, Copy)]
 pub struct Count {
     done: u64,
     other: u64,
-    /// Reply that is remembered of a member, if any is of any.
+    /// Reply that is remembered of a member, if there is one.
     reply: Option<Reply>,
 }
 
 impl Count {
-    /// Returns of how many something has come.
+    /// Returns how many errands have an outcome.
     pub fn all(self) -> u64 {
         self.done.saturating_add(self.other)
     }
 
-    /// Returns how many were done.
+    /// Returns how many errands were done.
     pub fn done(self) -> u64 {
         self.done
     }
 
-    /// Returns whether these words are remembered of a member; of none, where they are empty.
+    /// Returns whether the remembered reply has these words. Without a reply the words have to be empty.
     pub fn says(self, alloc: Global, words: &str) -> bool {
         let mut page = Vec::new(alloc);
         let is_written = match self.reply {
@@ -56,7 +56,7 @@ impl Count {
     }
 }
 
-/// Returns the reply that is remembered of the first member of which any is, where its address begins with `http://`.
+/// Returns the reply that is remembered of the first member that has one, if its address begins with `http://`.
 fn reply_in<R: Wait>(rt: &R, alloc: Global, outcomes: &Outcomes) -> Option<Reply> {
     for member in 0..16 {
         if let Ok(Some(attempt)) = outcomes.find(rt, alloc, member) {
@@ -69,7 +69,7 @@ fn reply_in<R: Wait>(rt: &R, alloc: Global, outcomes: &Outcomes) -> Option<Reply
     None
 }
 
-/// Takes what there is memory for.
+/// Gives errands to a callback pool, as far as it has memory for them.
 pub fn take_all<C: Carriage>(carriage: &mut C, errands: Vec<Held>) {
     for held in errands {
         if let Some(errand) = held.take() {
@@ -80,7 +80,7 @@ pub fn take_all<C: Carriage>(carriage: &mut C, errands: Vec<Held>) {
     }
 }
 
-/// Counts those of which something has come.
+/// Counts the errands that have an outcome.
 fn count_done<C: Carriage>(carriage: &mut C, count: &mut Count) {
     for _ in 0..u64::MAX {
         let Some((errand, outcome)) = carriage.done() else {
@@ -95,7 +95,7 @@ fn count_done<C: Carriage>(carriage: &mut C, count: &mut Count) {
     }
 }
 
-/// Carries until something has come of so many, or that time has passed.
+/// Runs a callback pool until this many errands have an outcome, or that time has passed.
 pub fn carry_within<R: Clock, C: Carriage>(
     rt: &R,
     carriage: &mut C,
@@ -121,7 +121,7 @@ pub fn carry_within<R: Clock, C: Carriage>(
     count
 }
 
-/// Carries errands with threads for names beside, until something has come of so many of them.
+/// Runs the callbacks of errands, beside threads that look up names, until this many have an outcome.
 fn carry<R: Wait + Net + Clock>(
     rt: &R,
     alloc: Global,
@@ -184,7 +184,7 @@ fn carry<R: Wait + Net + Clock>(
     count
 }
 
-/// The same while names are looked up.
+/// Runs the callbacks of errands under these rules, and looks up names in a second thread.
 pub fn carry_under<R>(
     rt: &R,
     alloc: Global,
@@ -206,7 +206,7 @@ where
     count
 }
 
-/// The same without rules.
+/// Runs the callbacks of errands without rules, and looks up names in a second thread.
 fn carry_by_name<R>(rt: &R, alloc: Global, held: Vec<Held>, wanted: u64) -> Count
 where
     R: Wait + Clock + Threads + Net<Listener = TcpListener, Stream = TcpStream> + Sync,
@@ -219,7 +219,7 @@ where
 
 pub const DONE: &str = "HTTP/1.1 204 No Content\r\n\r\n";
 
-/// The errands of so many members at one port of this host, and of so many at another.
+/// Returns the errands of members at two ports of this host, with a port and a number of members for each.
 pub fn errands_at(alloc: Global, first: (u16, u64), second: (u16, u64)) -> Option<Vec<Held>> {
     let one = socket_at(alloc, "127.0.0.1", first.0);
     let other = socket_at(alloc, "localhost", second.0);
@@ -229,8 +229,8 @@ pub fn errands_at(alloc: Global, first: (u16, u64), second: (u16, u64)) -> Optio
     held
 }
 
-/// Returns how long it takes until one member has answered that is asked after 200 others at another port, which take
-/// connections and answer nothing.
+/// Returns the time until one member has answered. It is asked after 200 others at another port, which accepts
+/// connections and answers nothing.
 fn passed_beside<R>(rt: &R, alloc: Global) -> Option<Duration>
 where
     R: Wait + Clock + Threads + Net<Listener = TcpListener, Stream = TcpStream> + Sync,
@@ -258,8 +258,8 @@ fn a_member_is_called_beside_silent_ones(rt: HostRuntime) {
     assert!(rt; passed < Duration::from_secs(3));
 }
 
-/// Returns how one of nine members answers, how many bytes at once, whether its errand is done then, and what is
-/// remembered of it.
+/// Returns the response of one of nine members, how many bytes come at once, whether its errand is done then, and the
+/// words that are remembered of it.
 fn manner(place: u64) -> (&'static str, usize, bool, &'static str) {
     match place {
         0 => (DONE, 4096, true, ""),
@@ -304,7 +304,7 @@ fn manner(place: u64) -> (&'static str, usize, bool, &'static str) {
     }
 }
 
-/// Returns what comes of the errand of a member that answers so.
+/// Returns the count of the errand of a member with this response.
 fn count_by<R>(rt: &R, alloc: Global, response: &str, at_once: usize) -> Option<Count>
 where
     R: Wait + Clock + Threads + Net<Listener = TcpListener, Stream = TcpStream> + Sync,
@@ -337,7 +337,7 @@ fn what_a_member_answers_comes_of_its_errand(rt: HostRuntime) {
     }
 }
 
-/// Returns what comes of errands to a port at which nobody listens, if anything does.
+/// Returns the count of two errands to a port without a listener, if both have an outcome.
 fn count_at_no_port<R>(rt: &R, alloc: Global) -> Option<Count>
 where
     R: Wait + Clock + Threads + Net<Listener = TcpListener, Stream = TcpStream> + Sync,
@@ -356,7 +356,8 @@ fn nobody_listens(rt: HostRuntime) {
     assert!(rt; count.is_some_and(|count| count.says(rt.alloc(), "connection refused")));
 }
 
-/// Returns what comes of an errand to a member that takes the connection and answers nothing, within a second.
+/// Returns the count of an errand to a member that accepts the connection and answers nothing. The reply's time-out is
+/// 800 ms.
 fn count_in_vain<R>(rt: &R, alloc: Global) -> Option<Count>
 where
     R: Wait + Clock + Threads + Net<Listener = TcpListener, Stream = TcpStream> + Sync,
@@ -380,8 +381,7 @@ fn a_member_answers_too_late(rt: HostRuntime) {
     assert!(rt; count.is_some_and(|count| count.says(rt.alloc(), "timed out after 1 s")));
 }
 
-/// Returns how long callbacks rest with nothing under way, where something is due in so many milliseconds, if anything
-/// is.
+/// Returns how long callbacks wait with nothing under way. Something is due in `millis` milliseconds, if that is given.
 fn rested<R: Wait + Net + Clock>(rt: &R, alloc: Global, millis: Option<u64>) -> Option<Duration> {
     let (poll, _bell) = bell(rt).ok()?;
     let group = Ready::up_to(u64::MAX)?;
@@ -418,7 +418,7 @@ fn rested<R: Wait + Net + Clock>(rt: &R, alloc: Global, millis: Option<u64>) -> 
     passed
 }
 
-/// Returns how long a carriage carries nothing.
+/// Returns how long an idle callback pool takes for one iteration.
 fn rest_of<R: Clock, C: Carriage>(
     rt: &R,
     carriage: &mut C,

@@ -1,4 +1,4 @@
-//! Tests of callbacks that are carried many at once.
+//! Tests of callbacks, many of which are under way at once.
 #![tactic(auto)]
 
 #[cfg(test)]

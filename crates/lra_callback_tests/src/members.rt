@@ -5,7 +5,7 @@ use std::io;
 use std::io::{Read, Write};
 use std::net::{Ipv4Addr, Net, SocketAddr, TcpListener, TcpStream};
 
-/// A port that a member listens at.
+/// Opens a listener at a free port, and returns it with the port.
 pub fn listen<N>(rt: &N) -> io::Result<(TcpListener, u16)>
 where
     N: Net<Listener = TcpListener, Stream = TcpStream>,
@@ -15,7 +15,7 @@ where
     Ok((listener, port))
 }
 
-/// A host with that port.
+/// Returns a host with that port.
 pub fn socket_at(alloc: Global, host: &str, port: u16) -> String {
     format!(in alloc; "{host}:{port}").unwrap_or(String::new(alloc))
 }
@@ -33,7 +33,7 @@ fn read_head(stream: &mut TcpStream) -> io::Result<()> {
     Ok(())
 }
 
-/// Takes a connection, and once the head of a request came writes these bytes, as many at once as that.
+/// Accepts a connection, and once the head of a request has come writes the response, in pieces of `at_once` bytes.
 pub fn serve(listener: &TcpListener, response: &str, at_once: usize) -> io::Result<()> {
     let (mut stream, _) = listener.accept()?;
     read_head(&mut stream)?;
@@ -43,7 +43,7 @@ pub fn serve(listener: &TcpListener, response: &str, at_once: usize) -> io::Resu
     Ok(())
 }
 
-/// The same, so many times.
+/// Serves `count` connections with this response.
 pub fn serve_all(listener: &TcpListener, response: &str, count: u64) {
     for _ in 0..count {
         let _ = serve(listener, response, 4096);

@@ -1,4 +1,4 @@
-//! Members where the rules let them be, and elsewhere.
+//! Members that the rules allow, and others.
 
 use crate::callbacks::{Count, DONE, PATIENCE, carry_under, errands_at};
 use crate::members::{listen, serve_all};
@@ -16,8 +16,8 @@ fn rules_of(alloc: Global, text: &str) -> Option<Rules> {
     Some(Rules::new(rules))
 }
 
-/// Returns what comes of the errands of two members at a port of this host, one by its address and one by its name,
-/// under one rule. The port takes all connections, and answers so many.
+/// Returns the count of the errands of two members at a port of this host, one by its address and one by its name,
+/// under one rule. The port accepts all connections, and answers `answered` of them.
 fn count_under<R>(rt: &R, alloc: Global, rule: &str, answered: u64) -> Option<Count>
 where
     R: Wait + Clock + Threads + Net<Listener = TcpListener, Stream = TcpStream> + Sync,
@@ -42,7 +42,7 @@ fn what_no_rule_lets_is_not_called(rt: HostRuntime) {
     assert!(rt; count.is_some_and(|count| count.says(rt.alloc(), words)));
 }
 
-/// Returns how many were done, where both are answered.
+/// Returns how many errands were done if both members answer.
 fn done_under<R>(rt: &R, alloc: Global, rule: &str) -> Option<u64>
 where
     R: Wait + Clock + Threads + Net<Listener = TcpListener, Stream = TcpStream> + Sync,

@@ -1,4 +1,4 @@
-//! The setting of callbacks: a journal, errands, and members at ports of this host.
+//! Setting of callbacks: a journal, errands, and members at ports of this host.
 
 ghost use Rattle.std.specs.Prelude.{◌≡◌, IfSome, true};
 ghost use Rattle.lra_ids.specs.Addresses.{is_base};
@@ -12,7 +12,7 @@ use std::alloc::{AllocError, Global};
 use std::sync::atomic::{AtomicU64, Ordering};
 use std::sync::{Arc, Wait};
 
-/// Sync group of which one journal is durable so far, and no other is.
+/// Sync group of which one journal is durable up to `length`, and no other is.
 #[derive(Drop)]
 pub struct Ready {
     pub instance: Instance,
@@ -69,12 +69,12 @@ impl SyncGroup for Ready {
     }
 }
 
-/// Returns no bells.
+/// Returns no wakers.
 pub fn no_bells(alloc: Global) -> Option<Arc<Vec<Waker>>> {
     Arc::new(alloc, Vec::new(alloc)).ok()
 }
 
-/// Returns what URIs begin with.
+/// Returns the base of the URIs.
 fn base(alloc: Global) -> Option<Address>
     ensures { IfSome result (λ base. is_base base ≡ true) }
 {
@@ -82,14 +82,14 @@ fn base(alloc: Global) -> Option<Address>
     if base.is_base() { Some(base) } else { None }
 }
 
-/// A coordinator without clerks.
+/// Returns a coordinator without clerks.
 fn coordinator(alloc: Global) -> Option<Coordinator> {
     let instance = Instance::new(7)?;
     let base = base(alloc)?;
     Some(Coordinator::new(alloc, instance, base, Limits::usual()))
 }
 
-/// A member at a host and port, apart from others by its number.
+/// Writes the addresses of a member at a host and port. Its number tells it from others.
 fn fill(alloc: Global, socket: &str, number: u64, uris: &mut Uris) -> Result<(), AllocError> {
     uris.complete = Some(format!(in alloc; "http://{socket}/c{number}")?);
     uris.compensate = Some(format!(in alloc; "http://{socket}/u{number}")?);
@@ -111,7 +111,7 @@ fn member(alloc: Global, socket: &str, number: u64) -> Option<Uris> {
     Some(uris)
 }
 
-/// Joins so many members at a host and port.
+/// Lets this many members at a host and port join.
 fn join_all(alloc: Global, coordinator: &mut Coordinator, socket: &str, count: u64) -> Option<()> {
     for number in 0..count {
         let member = member(alloc, socket, number)?;
@@ -122,7 +122,7 @@ fn join_all(alloc: Global, coordinator: &mut Coordinator, socket: &str, count: u
     Some(())
 }
 
-/// An errand that is held: where it is let go of, it is discarded.
+/// Errand that is held. Dropping it discards it.
 pub struct Held(Option<Errand>);
 
 impl Drop for Held {
@@ -147,7 +147,7 @@ fn begin(coordinator: &mut Coordinator) -> Result<(), Refusal> {
     Ok(())
 }
 
-/// Closes the action, and takes the errands of all that is due then.
+/// Closes the action, and collects the errands that are due then.
 fn ask_all(coordinator: &mut Coordinator, errands: &mut Vec<Held>) -> Option<()> {
     coordinator.close(1, 0, 1).ok()?;
     for _ in 0..u64::MAX {
@@ -160,7 +160,7 @@ fn ask_all(coordinator: &mut Coordinator, errands: &mut Vec<Held>) -> Option<()>
     None
 }
 
-/// The errands of an action of two hosts' members, so many at each.
+/// Collects the errands of an action with members at two hosts, each given with its number of members.
 fn ask_both(
     alloc: Global,
     coordinator: &mut Coordinator,
@@ -174,7 +174,7 @@ fn ask_both(
     ask_all(coordinator, errands)
 }
 
-/// The same of a coordinator of its own.
+/// Returns the errands of an action with members at two hosts, each given with its number of members.
 pub fn errands(alloc: Global, first: (&str, u64), second: (&str, u64)) -> Option<Vec<Held>> {
     let mut coordinator = coordinator(alloc)?;
     let mut errands = Vec::new(alloc);
@@ -191,7 +191,7 @@ pub enum End {
     Cancel,
 }
 
-/// The errand of the first member of an action, at a host and port, that is ended.
+/// Ends an action that has a member at a host and port, and returns the first errand.
 fn ask_one(alloc: Global, coordinator: &mut Coordinator, socket: &str, end: End) -> Option<Held> {
     begin(coordinator).ok()?;
     join_all(alloc, coordinator, socket, 1)?;
@@ -203,7 +203,8 @@ fn ask_one(alloc: Global, coordinator: &mut Coordinator, socket: &str, end: End)
     Some(Held(Some(errand)))
 }
 
-/// Returns the same of a coordinator of its own: another call returns an errand of the same member.
+/// Returns the first errand of an action that has ended, whose member is at a host and port. Another call returns an
+/// errand of the same member.
 pub fn errand(alloc: Global, socket: &str, end: End) -> Option<Held> {
     let mut coordinator = coordinator(alloc)?;
     let asked = ask_one(alloc, &mut coordinator, socket, end);

@@ -39,7 +39,7 @@ struct Told {
 }
 
 impl Ground {
-    /// Returns one with a quota of so many, and so many to each host.
+    /// Returns a state whose quota is `most` in all, and `each` for a host.
     fn new(alloc: Global, bells: Vec<Waker>, most: u32, each: u32) -> Option<Ground> {
         let bells = Arc::new(alloc, bells).ok()?;
         Some(Ground {
@@ -83,7 +83,7 @@ impl Ground {
     }
 }
 
-/// Takes one of some errands.
+/// Gives one of the errands to a callback pool.
 fn take_one<C: Carriage>(alloc: Global, carriage: &mut C, held: &mut Vec<Held>) {
     if let Some(one) = held.pop() {
         let mut errands = Vec::new(alloc);
@@ -92,7 +92,7 @@ fn take_one<C: Carriage>(alloc: Global, carriage: &mut C, held: &mut Vec<Held>) 
     }
 }
 
-/// Carries an errand by each of both to one host, which answers only once the second has waited.
+/// Runs an errand by each of both to one host, which answers only once the second has waited.
 fn carry_both<R: Clock, C: Carriage>(
     rt: &R,
     alloc: Global,
@@ -115,7 +115,7 @@ fn carry_both<R: Clock, C: Carriage>(
     }
 }
 
-/// Carries an errand by the second once the first has ended, whose errand to that host nobody answers.
+/// Runs an errand by the second worker once the first has ended. The first one's errand to that host has no answer.
 fn carry_after<'a, R: Wait + Net + Clock>(
     rt: &'a R,
     alloc: Global,
@@ -138,7 +138,8 @@ fn carry_after<'a, R: Wait + Net + Clock>(
     }
 }
 
-/// Returns what is told of two workers that carry an errand each to a port. The first ends before, or doesn't.
+/// Returns the counts of two workers with an errand each to a port. If `ends` is set the first ends before it has an
+/// answer.
 fn told_at<R: Wait + Net + Clock>(
     rt: &R,
     alloc: Global,
@@ -169,7 +170,7 @@ fn told_at<R: Wait + Net + Clock>(
     Some(told)
 }
 
-/// Returns the same, with a member at that port that answers so many times.
+/// Returns the counts of two workers with an errand each to a member, which answers twice once it may.
 fn told_of<R>(rt: &R, alloc: Global, ends: bool) -> Option<Told>
 where
     R: Wait + Clock + Threads + Net<Listener = TcpListener, Stream = TcpStream> + Sync,

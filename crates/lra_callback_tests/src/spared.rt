@@ -20,16 +20,15 @@ use std::time::{Clock, Duration, Instant};
 #[derive(Clone, Copy)]
 struct Twice {
     port: u16,
-    /// Least number of milliseconds between two asks of a silent member.
+    /// Shortest time between two asks of a silent member, in milliseconds.
     least_pause: u64,
-    /// The moment from which its office's clock goes on.
+    /// Moment from which its office's clock goes on.
     office: u64,
     /// End of its action the second time.
     end: End,
 }
 
-/// Carries an errand, and returns how long it takes until something has come of it, if that is no more than three
-/// seconds.
+/// Runs an errand, and returns the time until it has an outcome, if that takes at most three seconds.
 fn passed<R: Clock, C: Carriage>(
     rt: &R,
     alloc: Global,
@@ -48,7 +47,7 @@ fn passed<R: Clock, C: Carriage>(
     }
 }
 
-/// Returns how long it takes the second time, once something has come of the first.
+/// Returns the time of the second errand's outcome, measured once the first has one.
 fn passed_again<R: Clock, C: Carriage>(
     rt: &R,
     alloc: Global,
@@ -63,7 +62,7 @@ fn passed_again<R: Clock, C: Carriage>(
     passed(rt, alloc, carriage, second?)
 }
 
-/// The same of callbacks of their own.
+/// Runs `passed_again` with callbacks of its own.
 fn asked_twice<R: Wait + Net + Clock>(rt: &R, alloc: Global, twice: Twice) -> Option<Duration> {
     let (poll, _bell) = bell(rt).ok()?;
     let group = Ready::up_to(u64::MAX)?;
@@ -100,7 +99,8 @@ fn asked_twice<R: Wait + Net + Clock>(rt: &R, alloc: Global, twice: Twice) -> Op
     passed
 }
 
-/// Returns how long it takes where nobody listens, and the office's clock goes on from a moment.
+/// Returns the time of the second errand's outcome at a port without a listener. The office's clock goes on from
+/// `office`.
 fn silent_at<R>(rt: &R, alloc: Global, least_pause: u64, office: u64, end: End) -> Option<Duration>
 where
     R: Wait + Clock + Net<Listener = TcpListener, Stream = TcpStream>,
@@ -119,7 +119,7 @@ where
     )
 }
 
-/// Returns how long it takes where nobody listens.
+/// Returns the time of the second errand's outcome at a port without a listener.
 fn silent_twice<R>(rt: &R, alloc: Global, least_pause: u64, end: End) -> Option<Duration>
 where
     R: Wait + Clock + Net<Listener = TcpListener, Stream = TcpStream>,
@@ -150,7 +150,7 @@ fn where_the_pause_never_ends_it_is_not_asked_again(rt: HostRuntime) {
     assert!(rt; silent_twice(&rt, rt.alloc(), u64::MAX, End::Close).is_none());
 }
 
-/// Returns how long it takes where a member answers.
+/// Returns the time of the second errand's outcome at a member that answers.
 fn answered_twice<R>(rt: &R, alloc: Global) -> Option<Duration>
 where
     R: Wait + Clock + Threads + Net<Listener = TcpListener, Stream = TcpStream> + Sync,

@@ -15,10 +15,10 @@ use std::sync::Wait;
 use std::sync::atomic::{AtomicU64, Ordering};
 use std::time::{Clock, Duration};
 
-/// The position of each errand.
+/// Position of each errand.
 const POSITION: u64 = 5;
 
-/// Returns of how many errands something comes while the journal is a byte too short, and once it is long enough.
+/// Returns how many errands have an outcome while the journal is a byte too short, and how many once it is long enough.
 fn come_of<R: Clock, C: Carriage>(rt: &R, carriage: &mut C, length: &AtomicU64) -> (u64, u64) {
     length.store(POSITION - 1, Ordering::SeqCst);
     let early = carry_within(rt, carriage, 1, Duration::from_millis(300));
@@ -27,7 +27,7 @@ fn come_of<R: Clock, C: Carriage>(rt: &R, carriage: &mut C, length: &AtomicU64) 
     (early.all(), late.all())
 }
 
-/// Takes the errand of a member at a port.
+/// Gives the errand of a member at a port to a callback pool.
 fn take<C: Carriage>(alloc: Global, carriage: &mut C, port: u16) -> Option<()> {
     let socket = socket_at(alloc, "127.0.0.1", port);
     let held = errand(alloc, socket.as_str(), End::Close);
@@ -39,8 +39,8 @@ fn take<C: Carriage>(alloc: Global, carriage: &mut C, port: u16) -> Option<()> {
     Some(())
 }
 
-/// Returns of how many errands something comes, early and late, with callbacks of the journal of an instance, where
-/// only that of the seventh is durable.
+/// Returns how many errands have an outcome, early and late. The callbacks belong to the journal of this instance, and
+/// only the journal of instance 7 is durable.
 fn waited<R>(rt: &R, alloc: Global, number: u64) -> Option<(u64, u64)>
 where
     R: Wait + Clock + Net<Listener = TcpListener, Stream = TcpStream>,

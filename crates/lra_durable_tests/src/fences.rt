@@ -1,11 +1,12 @@
-//! Tests over the system's files that have the same bytes at each look, others at each look, none, and no end.
+//! Tests over the system's files: with the same bytes at each read, with others at each read, with none, and without an
+//! end.
 
 use lra_files::SmallFault;
 use lra_storage::{Fenced, stands};
 use std::alloc::Global;
 use std::sync::Arc;
 
-/// Returns whether the file of a name has the bytes that it had at first, or why it is no fence.
+/// Makes a file a fence, and returns whether it still has its bytes, or why it can't be a fence.
 fn told<R: Fenced>(rt: &R, alloc: Global, path: &str) -> Result<bool, SmallFault> {
     let fence = rt.fence(path)?;
     match Arc::new(alloc, fence) {

@@ -1,5 +1,5 @@
-//! Tests of what a disk takes and keeps: over disks in memory, and a storage's over the system's files; over public
-//! surfaces alone.
+//! Tests of what disks accept and make durable: disks in memory, and a storage's disk over the system's files. They use
+//! public APIs only.
 #![tactic(auto)]
 
 #[cfg(test)]

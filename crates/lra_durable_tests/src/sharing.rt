@@ -1,4 +1,4 @@
-//! Syncs that several wait for.
+//! Syncs that several threads wait for.
 
 use crate::platter::{Begun, Pen, Platter, Spinning, begin, begin_beside};
 use lra_durable::{Journals, Keeper, Progress, SyncGroup, Unkept};
@@ -9,11 +9,11 @@ use std::marker::Sync;
 use std::sync::{Arc, Wait};
 use std::thread::{Threads, join};
 
-/// The number of bytes that were kept when each of three could go on, if it could, and the number of syncs.
+/// Number of durable bytes when each of three threads could go on, if it could, and the number of syncs.
 type Told = (Option<u64>, Option<u64>, Option<u64>, u64);
 
-/// Waits until the platter has so many bytes, and then until they are kept. Returns how many are kept then, if they
-/// are.
+/// Waits until the platter has this many bytes, and then until they are durable. Returns how many bytes are durable
+/// then, if these are.
 fn wait<R: Wait>(
     rt: &R,
     platter: &Platter,
@@ -24,8 +24,8 @@ fn wait<R: Wait>(
     progress.keep(rt, progress.taken(rt)).ok().flatten()
 }
 
-/// Writes two bytes, and three more while the sync of those goes on, which waits for that. Whether the three weren't
-/// kept before.
+/// Writes two bytes, and three more while the sync of the first two waits for that. Returns whether both writes
+/// succeeded, and the three weren't durable before their sync.
 fn write_both<R: Wait>(
     rt: &R,
     platter: &Platter,
@@ -45,8 +45,8 @@ fn write_both<R: Wait>(
     first && second && !is_early
 }
 
-/// Returns what three threads were told: one that waits for two bytes, whose sync is held back, and two that wait for
-/// five that were written meanwhile.
+/// Returns the results of three threads. One waits for two bytes, whose sync is held back. Two wait for five bytes,
+/// three of which were written meanwhile.
 fn share<R: Threads + Wait + Sync>(rt: &R, alloc: Global, is_broken: bool) -> Option<Told> {
     let Begun {
         platter,
@@ -82,7 +82,7 @@ fn a_failed_sync_is_known_to_all_who_wait(rt: HostRuntime) {
     assert!(rt; share(&rt, rt.alloc(), true) == Some((None, None, None, 2)));
 }
 
-/// A group of two journals: one has taken two bytes, the other three.
+/// Group of two journals: one has two bytes, the other three.
 #[derive(Drop)]
 struct Two {
     group: Journals<Spinning>,
@@ -93,7 +93,7 @@ struct Two {
     other_progress: Arc<Progress<Spinning>>,
 }
 
-/// Returns a group of two journals, neither of which was synced, the other one's with that number, and its writer.
+/// Returns a group of two journals that weren't synced, and the writer of the second one, which has that number.
 fn begin_two<R: Wait>(rt: &R, alloc: Global, number: u64) -> Option<(Two, Keeper<&R, Spinning>)> {
     let Begun {
         platter,
@@ -119,7 +119,7 @@ fn begin_two<R: Wait>(rt: &R, alloc: Global, number: u64) -> Option<(Two, Keeper
     Some((two, other))
 }
 
-/// Returns what came of two journals that two threads synced at once: each sync waited until the other had begun.
+/// Syncs two journals in two threads at once. Each sync waits until the other has begun. Returns their durable lengths.
 fn sync_both<R: Threads + Wait + Sync>(rt: &R, alloc: Global) -> Option<(u64, u64)> {
     let (two, _other) = begin_two(rt, alloc, 9)?;
     two.platter.set(false, true);
@@ -144,8 +144,8 @@ fn journals_are_synced_side_by_side(rt: HostRuntime) {
     assert!(rt; sync_both(&rt, rt.alloc()) == Some((2, 3)));
 }
 
-/// Returns whether all is told right of journals: one has two bytes that are durable, one has three that aren't, and
-/// one was never there.
+/// Returns whether a group reports each journal right: one has two durable bytes, one has three that aren't durable,
+/// and one was never there.
 fn tells_each<R: Wait>(rt: &R, alloc: Global) -> Option<bool> {
     let (two, _other) = begin_two(rt, alloc, 3)?;
     let group = &two.group;
@@ -162,7 +162,7 @@ fn each_journal_is_as_durable_as_it_is(rt: HostRuntime) {
     assert!(rt; tells_each(&rt, rt.alloc()) == Some(true));
 }
 
-/// Returns whether a journal that was archived counts as durable to its end, and no further.
+/// Returns whether a journal that has ended counts as durable to its end, and no further.
 fn ends_whole<R: Wait>(rt: &R, alloc: Global) -> Option<bool> {
     let Begun {
         platter,
@@ -185,7 +185,7 @@ fn a_journal_that_ended_is_durable_to_its_end(rt: HostRuntime) {
     assert!(rt; ends_whole(&rt, rt.alloc()) == Some(true));
 }
 
-/// Returns whether a failed sync of one journal is known to threads that wait for another, and to its writer.
+/// Returns whether a failed sync of one journal is reported to threads that wait for another, and to its writer.
 fn fails_together<R: Wait>(rt: &R, alloc: Global) -> Option<bool> {
     let (two, mut other) = begin_two(rt, alloc, 9)?;
     let group = &two.group;

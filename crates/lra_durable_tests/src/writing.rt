@@ -1,4 +1,4 @@
-//! Writes that are whole, or are taken back, and what leaves when.
+//! Writes that are whole, or are cut off again, and when bytes may leave.
 
 use crate::platter::{Begun, begin};
 use lra_durable::{Keeper, SyncGroup, Unkept};
@@ -15,7 +15,7 @@ fn outcome<W: Write>(keeper: &mut W, bytes: &[u8]) -> Option<ErrorKind> {
     }
 }
 
-/// Returns whether a write that the disk takes in part is taken back, and the next one stands behind those that were
+/// Returns whether a write that the disk accepts only in part is cut off, and the next one follows those that were
 /// whole.
 fn takes_back<R: Wait>(rt: &R, alloc: Global) -> Option<bool> {
     let Begun {
@@ -38,7 +38,7 @@ fn a_write_stands_whole_or_not_at_all(rt: HostRuntime) {
     assert!(rt; takes_back(&rt, rt.alloc()) == Some(true));
 }
 
-/// Returns whether a write that can't be taken back is the disk's failure: nothing is written from then on, and nobody
+/// Returns whether a write that can't be cut off is the disk's failure: nothing is written from then on, and no thread
 /// waits.
 fn fails<R: Wait>(rt: &R, alloc: Global) -> Option<bool> {
     let Begun {
@@ -62,8 +62,8 @@ fn a_write_that_cannot_be_taken_back_is_the_end(rt: HostRuntime) {
     assert!(rt; fails(&rt, rt.alloc()) == Some(true));
 }
 
-/// Returns whether a write that is a byte too long for the room that there is gets nothing, though the disk would take
-/// it, and one that just fits is added.
+/// Returns whether a write that is a byte too long for the room is refused whole, though the disk would accept it, and
+/// one that just fits is appended.
 fn keeps_within<R: Wait>(rt: &R, alloc: Global) -> Option<bool> {
     let Begun {
         platter,
@@ -109,7 +109,7 @@ fn bytes_leave_once_their_position_is_durable(rt: HostRuntime) {
     assert!(rt; leaves_late(&rt, rt.alloc()) == Some(true));
 }
 
-/// Returns whether after a failed sync nothing is durable, written or let go any more.
+/// Returns whether nothing is durable, written or let out any more after a failed sync.
 fn leaves_never<R: Wait>(rt: &R, alloc: Global) -> Option<bool> {
     let Begun {
         platter,

@@ -1,4 +1,4 @@
-//! A counter that counts the orders that it is given, and does none of them; and a family of two.
+//! A counter that counts the orders that it is given and performs none, and a journal set of two such counters.
 ghost use Rattle.std.specs.Prelude.{◌≡◌, true, IfSome};
 ghost use Rattle.lra_ids.specs.Addresses.{is_base};
 ghost use Rattle.lra_family_front.specs.Households.{HaveBase, base_of as base_of_family};
@@ -8,7 +8,7 @@ use lra_family::Family;
 use lra_ids::{Address, Base, Instance, base_of};
 use std::alloc::Global;
 
-/// The instances of the older and of the newer member, which differ in the upper bits alone.
+/// Instances of the older and of the newer member, which differ only in their upper bits.
 pub(super) const OLDER: u64 = 7;
 
 pub(super) const NEWER: u64 = 4103;
@@ -20,7 +20,7 @@ pub(super) struct Counting {
     orders: u64,
 }
 
-/// The base of both members.
+/// Returns the base of both members.
 fn base(alloc: Global) -> Option<Address>
     ensures { IfSome result (λ base. is_base base ≡ true) }
 {
@@ -99,12 +99,12 @@ pub(super) fn orders_of(family: &Family<Counting>, instance: u64) -> Option<u64>
     }
 }
 
-/// A newer member joins a family.
+/// Adds a newer member to a journal set, and returns whether it joined.
 fn rolled(family: &mut Family<Counting>, newer: Counting) -> bool {
     family.newest().number() < newer.instance.number() && family.roll(newer).is_ok()
 }
 
-/// The family of the older member alone.
+/// Returns a journal set with the older member only.
 pub(super) fn alone(alloc: Global) -> Option<Family<Counting>>
     ensures { IfSome result (λ family. HaveBase (base_of_family family) family) }
 {
@@ -115,12 +115,12 @@ pub(super) fn alone(alloc: Global) -> Option<Family<Counting>>
     }
 }
 
-/// The newer member, before it joins.
+/// Returns the newer member, before it joins.
 pub(super) fn newcomer(alloc: Global) -> Option<Counting> {
     counter_of(alloc, NEWER)
 }
 
-/// The family of both.
+/// Returns a journal set of both members.
 pub(super) fn family(alloc: Global) -> Option<Family<Counting>> {
     let older = counter_of(alloc, OLDER)?;
     let newer = counter_of(alloc, NEWER)?;

@@ -1,4 +1,4 @@
-//! Tests of a family of journals: whose each request is, over counters that note that they were given an order.
+//! Tests of a journal set: which member a request goes to. The members are counters of the orders that they are given.
 #![tactic(auto)]
 
 #[cfg(test)]

@@ -8,9 +8,8 @@ use lra_steps::Answered;
 use lra_wire::{RequestFields, RequestRead};
 use std::alloc::Global;
 
-/// A request and its body, the word of its denial, and how many orders the older and the newer member are given,
-/// between `|`. The
-/// instances end in 0-8007 and 1-8007; of 1-8008 there is none.
+/// A request and its body, the word of its API error, and how many orders the older and the newer member are given,
+/// between `|`. The instances end in 0-8007 and 1-8007. There is none that ends in 1-8008.
 const ROWS: &str = r###"POST /lra-coordinator||Worn|0 1
 POST /lra-coordinator|{"limit":5}|Worn|0 1
 POST /lra-coordinator|{"parent":"http://h.test/lra-coordinator/00000000-0000-8007-8000-000000000001"}|Worn|1 0
@@ -58,7 +57,7 @@ GET /nothing||NoSuchPath|0 0
 GET /lra-coordinator/00000000-0000-8007-8000-000000000001?x||NoSuchPath|0 0
 DELETE /lra-coordinator/00000000-0000-8007-8000-000000000001||BadMethod|0 0"###;
 
-/// Returns what stands before a sign, and what after it.
+/// Returns the text before a sign and the text after it.
 fn parted<'t>(text: &'t str, sign: &str) -> (&'t str, &'t str) {
     match text.split_once(sign) {
         Some(parts) => parts,
@@ -80,7 +79,7 @@ fn request(alloc: Global, head: &str, body: &str) -> Option<RequestRead> {
     })
 }
 
-/// The word of a denial.
+/// Returns the word of an API error.
 fn word(answer: Answer) -> &'static str {
     match answer {
         Answer::Denied(denial) => denial.name(),
@@ -88,7 +87,7 @@ fn word(answer: Answer) -> &'static str {
     }
 }
 
-/// Returns what a request is answered.
+/// Returns the answer to a request.
 fn answered(
     alloc: Global,
     routes: &Routes,
@@ -110,7 +109,7 @@ fn were_given(family: &Family<Counting>, digits: &str) -> bool {
     }
 }
 
-/// Returns whether an answer has a position just where one of the members was given an order: its own.
+/// Returns whether an answer has a position exactly if a member was given an order: the position of that member.
 fn has_position(told: Answered, digits: &str) -> bool {
     match digits {
         "0 0" => told.position.is_none(),
@@ -119,7 +118,7 @@ fn has_position(told: Answered, digits: &str) -> bool {
     }
 }
 
-/// Returns whether a request is answered by a word, at a family of both.
+/// Returns whether a request to a journal set of both members has the wanted word, orders and position.
 fn comes_to(alloc: Global, head: &str, body: &str, wanted: &str, digits: &str) -> Option<bool> {
     let routes = Routes::new(alloc).ok()?;
     let request = request(alloc, head, body)?;
@@ -143,12 +142,12 @@ fn a_request_is_the_one_member_s_that_it_names(rt: HostRuntime) {
     }
 }
 
-/// A start below an action of the older member.
+/// A start that is nested in an action of the older member.
 const NESTED: &str =
     r#"{"parent":"http://h.test/lra-coordinator/00000000-0000-8007-8000-000000000001"}"#;
 
-/// Returns whether a nested start is its parent's journal's. Where memory is refused for it, it reaches nobody, and is
-/// answered the next time.
+/// Returns whether a nested start goes to its parent's journal. If memory is refused for it, it goes to no member, and
+/// is answered the next time.
 fn is_given_once(alloc: Global) -> Option<bool> {
     let routes = Routes::new(alloc).ok()?;
     let request = request(alloc, "POST /lra-coordinator", NESTED)?;

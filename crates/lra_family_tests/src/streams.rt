@@ -1,4 +1,4 @@
-//! Streams over a household: requests by turns on one connection, and a member that joins in its middle.
+//! Streams over a journal router: requests to different members on one connection, and a member that joins meanwhile.
 
 ghost use Rattle.lra_family_front.specs.Households.{KeepsBase, Moved};
 
@@ -10,16 +10,16 @@ use lra_ids::Instance;
 use lra_steps::{Responder, answer_pieces};
 use std::alloc::Global;
 
-/// Adds a newer counter at the third look.
+/// Membership that adds a newer counter at the third poll.
 #[derive(Drop)]
 struct Late {
     looks: u64,
     newer: Option<Counting>,
-    /// It says that any member may be lacked.
+    /// Answer of `lacks_any` and `lacks`: whether a member may be missing.
     lacks: bool,
 }
 
-/// The newer counter joins, where it is there still and memory isn't refused.
+/// Lets the newer counter join, if it hasn't joined yet and memory isn't refused.
 fn join(family: &mut Family<Counting>, newer: &mut Option<Counting>)
     ensures moved { Moved family.old family.new }
     ensures base { KeepsBase family.old family.new }
@@ -50,7 +50,7 @@ impl Kinship<Counting> for Late {
     }
 }
 
-/// A clock that stands still.
+/// Clock that stands still.
 #[derive(Drop)]
 struct Still {
     moment: u64,
@@ -66,7 +66,7 @@ impl Clock for Still {
     }
 }
 
-/// The requests of one connection.
+/// Requests of one connection.
 const STREAM: &str = "\
 GET /lra-coordinator/00000000-0000-8007-8000-000000000001 HTTP/1.1\r\nHost: h.test\r\n\r\n\
 GET /lra-coordinator/00000000-0001-8007-8000-000000000001 HTTP/1.1\r\nHost: h.test\r\n\r\n\
@@ -75,13 +75,13 @@ GET /lra-coordinator/00000000-0001-8008-8000-000000000001 HTTP/1.1\r\nHost: h.te
 POST /lra-coordinator HTTP/1.1\r\nHost: h.test\r\n\r\n\
 GET /lra-coordinator/00000000-0000-8007-8000-000000000001 HTTP/1.1\r\nHost: h.test\r\n\r\n";
 
-/// The status of each reply: 503 where a member is given the order, and 404 where none is there.
+/// Status of each reply: 503 if a member is given the order, and 404 if there is no such member.
 const STATUSES: &str = "503 404 503 404 503 503 ";
 
-/// The same where a member may be lacked: 503 for what no member answers, too.
+/// The same if a member may be missing: 503 also for requests that no member answers.
 const LACKING: &str = "503 503 503 503 503 503 ";
 
-/// The stream in pieces of this size.
+/// Cuts the stream into pieces of this size.
 fn cut(alloc: Global, size: usize) -> Option<Vec<Vec<u8>>> {
     let mut pieces = Vec::new(alloc);
     for piece in STREAM.as_bytes().chunks(size.max(1)) {
@@ -91,7 +91,7 @@ fn cut(alloc: Global, size: usize) -> Option<Vec<Vec<u8>>> {
     Some(pieces)
 }
 
-/// The statuses of replies.
+/// Returns the statuses of replies.
 fn statuses(alloc: Global, replies: &str) -> Option<String> {
     let mut told = String::new(alloc);
     let mut rest = replies;
@@ -105,7 +105,7 @@ fn statuses(alloc: Global, replies: &str) -> Option<String> {
     Some(told)
 }
 
-/// Returns whether these are the replies.
+/// Returns whether the replies have these statuses.
 fn are_so(alloc: Global, sent: &[u8], wanted: &str) -> bool {
     let Ok(replies) = str::from_utf8(sent) else {
         return false;
@@ -116,7 +116,8 @@ fn are_so(alloc: Global, sent: &[u8], wanted: &str) -> bool {
     }
 }
 
-/// The household of the older member, whom the newer will join, after so many looks, and may be lacked until then.
+/// Returns a journal router with the older member. The newer member joins at the third poll; `looks` polls count
+/// already.
 fn household(alloc: Global, looks: u64, lacks: bool) -> Option<Household<Counting, Late>> {
     let newer = newcomer(alloc);
     let family = alone(alloc)?;
@@ -130,7 +131,7 @@ fn household(alloc: Global, looks: u64, lacks: bool) -> Option<Household<Countin
     ))
 }
 
-/// Returns whether the stream is replied so at a household.
+/// Returns whether the replies to the stream at a journal router have the wanted statuses.
 fn is_replied(
     alloc: Global,
     household: &mut Household<Counting, Late>,
@@ -146,7 +147,7 @@ fn is_replied(
     Some(replied)
 }
 
-/// Returns whether the stream is replied so, and each member is given two orders.
+/// Returns whether the stream has its statuses, and each member is given two orders.
 fn comes_to(alloc: Global, size: usize) -> Option<bool> {
     let mut household = household(alloc, 0, false)?;
     let replied = is_replied(alloc, &mut household, size, STATUSES);
@@ -163,8 +164,8 @@ fn a_connection_asks_members_by_turns(rt: HostRuntime) {
     assert!(rt; comes_to(rt.alloc(), 4096) == Some(true));
 }
 
-/// Returns whether what no member answers is refused while one may be lacked, and the older is given its own two
-/// orders, and no start.
+/// Returns whether requests that no member answers are refused while a member may be missing. The older member is given
+/// its own two orders, and no start.
 fn reaches_nobody(alloc: Global, size: usize) -> Option<bool> {
     let mut household = household(alloc, 3, true)?;
     let replied = is_replied(alloc, &mut household, size, LACKING);
@@ -181,7 +182,7 @@ fn what_may_be_lacked_reaches_nobody(rt: HostRuntime) {
     assert!(rt; reaches_nobody(rt.alloc(), 4096) == Some(true));
 }
 
-/// Returns whether the newer member has joined after one rest more than these looks.
+/// Returns whether the newer member has joined after these polls and one rest.
 fn has_joined(alloc: Global, looks: u64) -> Option<bool> {
     let mut household = household(alloc, looks, false)?;
     household.rest();

@@ -7,17 +7,17 @@ use lra_ids::is_address_text;
 
 const TURNS: u64 = 200_000;
 
-/// The most bytes of an address.
+/// Most bytes of an address.
 const LONGEST: usize = 512;
 
 const SHORT: &[u8] = b"http://p.test/u";
 
 const USUAL: &[u8] = b"http://participant-1.example.test:8080/lra/complete?id=17";
 
-/// Its own address is `http://p.test/a%20b`.
+/// Text whose address is `http://p.test/a%20b`.
 const OTHER: &[u8] = b"HTTP://P.test:80/a b";
 
-/// Tests a text many times, and gives the seconds that this took.
+/// Tests a text many times, and returns the seconds that this took.
 fn time(rt: &HostRuntime, text: &[u8]) -> Result<f64> {
     let watch = Stopwatch::start(rt);
     for _ in 0..TURNS {
@@ -26,7 +26,7 @@ fn time(rt: &HostRuntime, text: &[u8]) -> Result<f64> {
     Ok(watch.seconds(rt))
 }
 
-/// Prints a line for a text, beside what the short one took.
+/// Prints a line for a text, with the ratio of its time to that of the short one.
 fn print_text(rt: &HostRuntime, what: &str, text: &[u8], short: f64) -> Result<()> {
     let seconds = time(rt, text)?;
     let line = Line {
@@ -40,7 +40,7 @@ fn print_text(rt: &HostRuntime, what: &str, text: &[u8], short: f64) -> Result<(
     line.print(rt)
 }
 
-/// Prints a line for a text of as many bytes as there may be.
+/// Prints a line for a text of the greatest length.
 fn print_longest(rt: &HostRuntime, short: f64) -> Result<()> {
     let mut text = Vec::new(rt.alloc());
     text.extend_from_slice(b"http://p.test/")?;

@@ -1,4 +1,4 @@
-//! The lines that benchmarks print.
+//! Lines that benchmarks print.
 
 use anyhow::Result;
 use std::io::Print;
@@ -6,14 +6,14 @@ use std::io::Print;
 /// One figure.
 #[derive(Clone, Copy)]
 pub struct Line<'a> {
-    /// The name of what was measured.
+    /// Name of what was measured.
     pub what: &'a str,
-    /// The amount that there was of something.
+    /// Size of the input, in the unit `of`.
     pub size: u64,
     pub of: &'a str,
     pub figure: f64,
     pub unit: &'a str,
-    /// The quotient of the figure and that of another line.
+    /// Ratio of two measured times.
     pub ratio: f64,
 }
 

@@ -1,4 +1,4 @@
-//! Handovers a second through the ticket lock, beside a Mutex round the same value.
+//! Handovers a second through the ticket lock, compared with a Mutex around the same value.
 ghost use Rattle.std.specs.Prelude.{◌≡◌, All, IfOk};
 ghost use Rattle.lra_ticket.specs.Locks.{lock_id, pass_id};
 
@@ -15,10 +15,10 @@ use std::sync::Wait;
 use std::thread::{self, Threads};
 use std::time::Clock;
 
-/// The handovers of one measurement, by all threads together.
+/// Handovers of one measurement, by all threads together.
 const HANDOVERS: u64 = 1_000_000;
 
-/// Takes the lock and gives it back, this many times. It ends early where no ticket is left.
+/// Takes the lock and gives it back, this many times. It ends early if no ticket is left.
 fn hand_over<V: Kept, R: Wait>(
     rt: &R,
     lock: &TicketLock<V>,
@@ -43,7 +43,7 @@ impl Turns for Vec<Entry> {
     }
 }
 
-/// As many passes as there are threads.
+/// Returns as many passes as there are threads.
 fn passes<V: Kept>(
     alloc: Global,
     lock: &TicketLock<V>,
@@ -63,7 +63,7 @@ fn passes<V: Kept>(
     Ok(all)
 }
 
-/// Each pass takes the lock this many times, in a thread of its own.
+/// Takes the lock this many times by each pass, in a thread of its own.
 fn hand_over_all<V: Kept + Send, R: Threads + Wait + Sync>(
     rt: &R,
     lock: &TicketLock<V>,
@@ -115,8 +115,8 @@ fn through_tickets<R: Threads + Wait + Clock + Sync>(
     }
 }
 
-/// Prints a line for 1, 2, 4 and 8 threads: handovers a second through the ticket lock, and how many times those
-/// through the Mutex they are.
+/// Prints a line for 1, 2, 4 and 8 threads: handovers a second through the ticket lock, and their ratio to those
+/// through the Mutex.
 pub fn run<R: Threads + Wait + Clock + Print + Sync>(rt: &R, alloc: Global) -> Result<()> {
     for threads in [1u64, 2, 4, 8] {
         let ours = through_tickets(rt, alloc, threads)?;

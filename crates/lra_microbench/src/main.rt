@@ -1,5 +1,5 @@
-//! Measures calls that no program tells the time of. Each prints ratios of times that it took in one run, since times
-//! themselves don't hold from machine to machine.
+//! Measures calls whose times no program reports. Each benchmark prints ratios of times that it took in one run, since
+//! times themselves don't hold from machine to machine.
 #![tactic(auto)]
 
 mod ids;
@@ -21,7 +21,7 @@ lock      handovers of the ticket lock, beside a Mutex
 timers    the calls of an agenda, as its pairs grow from 1,000 to 400,000
 wire      requests read a second, whole and in small pieces";
 
-/// The status where there is no benchmark of that name.
+/// Exit status for an unknown benchmark.
 const UNKNOWN: u8 = 2;
 
 /// Runs the benchmark of that name, if it needs no threads.

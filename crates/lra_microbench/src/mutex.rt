@@ -1,4 +1,4 @@
-//! A value behind a Mutex, at which several threads take turns: what the locks of this project are measured beside.
+//! A value behind a Mutex, at which several threads take turns. The locks of this project are compared with it.
 
 use crate::stopwatch::Stopwatch;
 use anyhow::{Result, ensure};
@@ -8,13 +8,13 @@ use std::sync::{Mutex, Wait};
 use std::thread::{self, Threads};
 use std::time::Clock;
 
-/// Something that is done by turns.
+/// Value that threads take turns at.
 pub trait Turns {
-    /// Takes a turn; false where that can't be done.
+    /// Takes a turn, and returns whether that succeeded.
     fn take_turn(&mut self) -> bool;
 }
 
-/// Takes so many turns, each under the lock; false where one of them can't be done.
+/// Takes turns, each under the lock. Returns false once one of them fails.
 fn take_turns<T: Turns, R: Wait>(rt: &R, lock: &Mutex<T>, turns: u64) -> bool {
     for _ in 0..turns {
         if !lock.lock(rt).take_turn() {
@@ -24,7 +24,7 @@ fn take_turns<T: Turns, R: Wait>(rt: &R, lock: &Mutex<T>, turns: u64) -> bool {
     true
 }
 
-/// The seconds that so many turns take, by all threads together.
+/// Returns the seconds that turns take, by all threads together.
 fn time<T: Turns + Send, R: Threads + Wait + Clock + Sync>(
     rt: &R,
     alloc: Global,
@@ -45,7 +45,7 @@ fn time<T: Turns + Send, R: Threads + Wait + Clock + Sync>(
     Ok(seconds)
 }
 
-/// The same at a value of their own.
+/// Returns the seconds that turns at a value take, under a lock of its own.
 pub fn through_a_mutex<T: Turns + Drop + Send, R: Threads + Wait + Clock + Sync>(
     rt: &R,
     alloc: Global,

@@ -3,7 +3,7 @@
 use std::io;
 use std::io::Read;
 
-/// Gives its bytes in pieces of at most this size.
+/// Reader that gives its bytes in pieces of at most this size.
 #[derive(Drop)]
 pub(crate) struct Pieces<'a> {
     pub(crate) rest: &'a [u8],

@@ -1,9 +1,9 @@
-//! A clock that is read where nothing may fail.
+//! A stopwatch that can't fail.
 
 use std::num::nearest_u64_to_f64;
 use std::time::{Clock, Instant};
 
-/// Time since a beginning. Where the clock can't be read it is infinite, so that a caller needn't end what it holds.
+/// Time since a beginning. It is infinite if the clock can't be read, so that a caller needn't handle an error.
 #[derive(Clone, Copy)]
 pub struct Stopwatch {
     start: Option<Instant>,
@@ -16,7 +16,7 @@ impl Stopwatch {
         }
     }
 
-    /// The seconds since the start.
+    /// Returns the seconds since the start.
     pub fn seconds<R: Clock>(self, rt: &R) -> f64 {
         let Some(start) = self.start else {
             return f64::INFINITY;
@@ -28,12 +28,12 @@ impl Stopwatch {
     }
 }
 
-/// Nanoseconds of each of so many calls.
+/// Returns the nanoseconds of each call.
 pub fn nanoseconds_each(seconds: f64, calls: u64) -> f64 {
     seconds * 1e9 / nearest_u64_to_f64(calls)
 }
 
-/// Returns how many calls there are a second.
+/// Returns the number of calls a second.
 pub fn a_second(seconds: f64, calls: u64) -> f64 {
     nearest_u64_to_f64(calls) / seconds
 }

@@ -1,4 +1,4 @@
-//! The time per call of an agenda, for moments in no order and for rising ones, at several numbers of pairs.
+//! The time per call of an agenda, for moments in random and in rising order, at several numbers of pairs.
 
 use crate::line::Line;
 use crate::stopwatch::{Stopwatch, nanoseconds_each};
@@ -7,13 +7,13 @@ use lra_timers::{Agenda, Memory};
 
 const SIZES: [u64; 3] = [1_000, 20_000, 400_000];
 
-/// The number of turns that are timed together.
+/// Number of turns that are timed together.
 const TURNS: u64 = 100_000;
 
-/// A turn's calls: the first twice, a replacement, a drop and a set.
+/// Calls of a turn: the first twice, a replacement, a drop and a set.
 const CALLS: u64 = 5;
 
-/// The shortest of so many runs counts, since what else the machine does only makes a run longer.
+/// Number of runs. The shortest counts, since other work of the machine only makes a run longer.
 const RUNS: u64 = 50;
 
 #[derive(Clone, Copy)]
@@ -38,13 +38,13 @@ impl Order {
     }
 }
 
-/// Another number for each n, in no order that the agenda could use.
+/// Returns another number for each n, in no order that the agenda could use.
 fn scrambled(n: u64) -> u64 {
     let n = n.wrapping_mul(0x9E37_79B9_7F4A_7C15);
     (n ^ (n >> 29)).wrapping_mul(0xBF58_476D_1CE4_E5B9)
 }
 
-/// With rising moments the member that comes first, else any of so many.
+/// Returns the first member if moments rise, or else any of `size` members.
 fn next_member(agenda: &Agenda, order: Order, size: u64, turn: u64) -> u64 {
     match (order, agenda.next_retry(u64::MAX)) {
         (Order::Rising, Some(first)) => first,
@@ -52,7 +52,7 @@ fn next_member(agenda: &Agenda, order: Order, size: u64, turn: u64) -> u64 {
     }
 }
 
-/// One member waits again, and another is done, whose place a new one takes.
+/// Sets a member's retry again, and replaces another member by a new one.
 fn take_turn(agenda: &mut Agenda, order: Order, size: u64, turn: u64) -> Result<(), Memory> {
     let moment = order.moment(turn);
     let waiting = next_member(agenda, order, size, turn);
@@ -62,7 +62,7 @@ fn take_turn(agenda: &mut Agenda, order: Order, size: u64, turn: u64) -> Result<
     agenda.set_retry(done, moment)
 }
 
-/// The seconds that turns take, from one on.
+/// Returns the seconds that turns take, from the turn `first` on.
 fn time_turns(
     rt: &HostRuntime,
     agenda: &mut Agenda,
@@ -77,7 +77,7 @@ fn time_turns(
     Ok(watch.seconds(rt))
 }
 
-/// Sets so many pairs in an empty agenda, and gives the seconds of the shortest of its runs.
+/// Sets this many pairs in an empty agenda, and returns the seconds of its shortest run.
 fn shortest(rt: &HostRuntime, agenda: &mut Agenda, order: Order, size: u64) -> Result<f64> {
     for n in 0..size {
         agenda.set_retry(scrambled(n), order.moment(n))?;
@@ -90,7 +90,7 @@ fn shortest(rt: &HostRuntime, agenda: &mut Agenda, order: Order, size: u64) -> R
     Ok(least)
 }
 
-/// The nanoseconds per call of an agenda of its own.
+/// Returns the nanoseconds per call of a new agenda.
 fn time_anew(rt: &HostRuntime, order: Order, size: u64) -> Result<f64> {
     let mut agenda = Agenda::new(rt.alloc());
     let seconds = shortest(rt, &mut agenda, order, size);

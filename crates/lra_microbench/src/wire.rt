@@ -1,8 +1,8 @@
 //! Requests parsed a second, whole and in small pieces.
 //!
-//! Times don't hold from machine to machine, so what counts are ratios taken in one run: the time of
-//! a stream in pieces of each size to that in large pieces, and that of long heads that come byte by
-//! byte to that of as many bytes in short ones.
+//! Times don't hold from machine to machine, so what counts are ratios taken in one run: the time of a stream in pieces
+//! of each size to that in large pieces, and that of long heads that come byte by byte to that of as many bytes in
+//! short ones.
 use crate::line::Line;
 use crate::pieces::Pieces;
 use crate::stopwatch::{Stopwatch, a_second};
@@ -10,16 +10,16 @@ use anyhow::Result;
 use lra_wire::{Inbox, read_request};
 use std::alloc::Global;
 
-/// The number of requests that a stream has.
+/// Number of requests of a stream.
 const REQUESTS: u64 = 10_000;
 
-/// The shortest of so many runs counts: what else the machine does only makes a run longer.
+/// Number of runs. The shortest counts, since other work of the machine only makes a run longer.
 const RUNS: u32 = 5;
 
-/// The value of a field that makes a request 16 times as long as one of 350 bytes does.
+/// Length of a field's value that makes a request 16 times as long as a value of 350 bytes does.
 const LONG: usize = 7460;
 
-/// So many requests, each with a field of so long a value, one after another.
+/// Returns a stream of `count` requests, each with a field whose value has this length.
 fn stream(alloc: Global, count: u64, len: usize) -> Result<Vec<u8>> {
     let mut bytes = Vec::new(alloc);
     for _ in 0..count {
@@ -52,7 +52,7 @@ pub fn read_stream(alloc: Global, bytes: &[u8], size: usize) -> Result<()> {
     read
 }
 
-/// Seconds to read all requests of the bytes, the least of some runs.
+/// Returns the seconds to read all requests of the bytes, the least of some runs.
 fn time(rt: &HostRuntime, bytes: &[u8], size: usize) -> Result<f64> {
     let mut least = f64::MAX;
     for _ in 0..RUNS {
@@ -81,7 +81,7 @@ fn print_pieces(rt: &HostRuntime, bytes: &[u8]) -> Result<()> {
     Ok(())
 }
 
-/// Seconds to read, byte by byte, a stream of so many requests, each with a field of so long a value.
+/// Returns the seconds to read a stream byte by byte: `count` requests, each with a field whose value has this length.
 fn time_bytes(rt: &HostRuntime, count: u64, len: usize) -> Result<f64> {
     let bytes = stream(rt.alloc(), count, len)?;
     let seconds = time(rt, bytes.as_slice(), 1);

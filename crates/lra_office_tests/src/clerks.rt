@@ -1,4 +1,4 @@
-//! Clerks of one office: what they see of one another, and what one is answered while another is served.
+//! Clerks of one office: what they see of one another, and the answers to one while another is served.
 
 ghost use Rattle.std.specs.Prelude.{◌≡◌, IfOk, IfSome};
 ghost use Rattle.lra_office.specs.Clerks.{IsClerkOf};
@@ -20,7 +20,7 @@ use std::test::Fail;
 use std::thread::{Threads, join};
 use std::time::Clock;
 
-/// Returns whether a clerk is answered as one that is alone.
+/// Returns whether a clerk has the answers of one that is alone.
 fn acts_alone<V: Serving, R: Wait>(rt: &R, office: &OfficeOf<V>, clerk: &mut Clerk<V>) -> bool
     requires { IsClerkOf office.now.lock V.covers clerk.old }
     ensures { IsClerkOf office.now.lock V.covers clerk.new }
@@ -32,7 +32,7 @@ fn acts_alone<V: Serving, R: Wait>(rt: &R, office: &OfficeOf<V>, clerk: &mut Cle
     started && closed && told
 }
 
-/// The only clerk of an office, and whether it is answered as a lone one.
+/// Enrols the only clerk of an office. Returns it, and whether it has the answers of one that is alone.
 fn alone<V: Serving, R: Wait>(
     rt: &R,
     office: &OfficeOf<V>,
@@ -47,7 +47,8 @@ fn alone<V: Serving, R: Wait>(
     Ok((clerk, is_served))
 }
 
-/// The same at a new office, with its journal.
+/// Enrols the only clerk of a new office. Returns the journal, and whether the clerk has the answers of one that is
+/// alone.
 fn alone_at<R: Wait>(rt: &R, alloc: Global) -> Result<(Vec<u8>, bool), Fail> {
     let (office, pass) = made(alloc, Vec::new(alloc))?;
     let worked = alone(rt, &office, pass);
@@ -65,7 +66,7 @@ fn who_is_alone_is_never_told_to_wait(rt: HostRuntime) -> Result<(), Fail> {
     Ok(())
 }
 
-/// The number of an action that was started.
+/// Returns the number of an action that was started.
 fn started(told: Result<Told, OfficeRefusal>) -> Option<u64> {
     match told {
         Ok(Told::Action(action)) => Some(action),
@@ -73,7 +74,7 @@ fn started(told: Result<Told, OfficeRefusal>) -> Option<u64> {
     }
 }
 
-/// Starts an action, and tells its number.
+/// Starts an action, and returns its number.
 fn starts<V: Serving, R: Wait>(
     rt: &R,
     office: &OfficeOf<V>,
@@ -110,8 +111,8 @@ fn enrols_and_starts<V: Serving, R: Wait>(
     }
 }
 
-/// A clerk and one that is enrolled in a second thread, each of which has started an action, and the number of the
-/// second one's.
+/// Starts an action by a clerk, and another by a clerk that is enrolled in a second thread. Returns both clerks, and
+/// the number of the second action.
 fn two<V: Serving + Send, R: Threads + Wait + Sync>(
     rt: &R,
     office: &OfficeOf<V>,
@@ -164,7 +165,7 @@ fn counts(alloc: Global, journal: &[u8]) -> Result<(u32, u32, u32), Fail> {
     Ok(counts)
 }
 
-/// Returns what is left of two clerks that met, and whether one has seen what the other did in its thread.
+/// Returns a clerk of two that met, and whether one has seen what the other did in its thread.
 fn sees_the_other<V: Serving + Send, R: Threads + Wait + Sync>(
     rt: &R,
     office: &OfficeOf<V>,
@@ -184,7 +185,7 @@ fn sees_the_other<V: Serving + Send, R: Threads + Wait + Sync>(
     Ok((first, is_active))
 }
 
-/// The same at a new office, with its writer.
+/// Runs `sees_the_other` at a new office, and returns its writer too.
 fn meet_at<W: Write + Drop + Send, R: Threads + Wait + Sync>(
     rt: &R,
     alloc: Global,
@@ -203,7 +204,7 @@ fn a_clerk_sees_what_another_did_in_its_thread(rt: HostRuntime) -> Result<(), Fa
     Ok(())
 }
 
-/// A writer in memory that waits, once it is armed, until another thread was answered.
+/// Writer in memory. Once it is armed it waits until another thread has its answer.
 #[derive(Drop)]
 struct Slow<'a, R> {
     rt: &'a R,
@@ -235,7 +236,7 @@ fn starts_slowly<V: Serving, R: Wait>(rt: &R, office: &OfficeOf<V>, mut clerk: C
     told == Ok(Told::Action(1))
 }
 
-/// Returns whether a status is asked for in vain once the writer waits.
+/// Returns whether a request for a status is refused as busy while the writer waits.
 fn is_told_busy<V: Serving, R: Clock>(
     rt: &R,
     office: &OfficeOf<V>,
@@ -251,7 +252,7 @@ fn is_told_busy<V: Serving, R: Clock>(
     has_entered && answer == Err(TryRefusal::Busy)
 }
 
-/// Returns whether one clerk was told that the lock is another's, and the other one was served.
+/// Returns whether one clerk was refused because another held the lock, and that other was served.
 fn do_overlap<V: Serving + Send, R: Threads + Wait + Clock + Sync>(
     rt: &R,
     office: &OfficeOf<V>,
@@ -275,7 +276,7 @@ fn do_overlap<V: Serving + Send, R: Threads + Wait + Clock + Sync>(
     Ok(started && busy)
 }
 
-/// The same at a new office, whose writer waits.
+/// Runs `do_overlap` at a new office, whose writer waits.
 fn overlap_at<W: Write + Drop + Send, R: Threads + Wait + Clock + Sync>(
     rt: &R,
     alloc: Global,

@@ -1,4 +1,4 @@
-//! Two threads that answer connections at an office, and a client of theirs over sockets.
+//! Two threads that serve connections at an office, and their client over sockets.
 
 ghost use Rattle.std.specs.Prelude.{◌≡◌, IfOk};
 ghost use Rattle.std.specs.Thread.{IsSync};
@@ -20,7 +20,7 @@ use std::sync::{Mutex, Wait};
 use std::test::Fail;
 use std::thread::{Threads, join};
 
-/// A start; the close of what was started; a join after that; and an action that isn't there.
+/// Requests: a start; the close of that action; a join after that; and the status of an action that doesn't exist.
 const REQUESTS: &str = "POST /lra-coordinator HTTP/1.1\r
 Host: 127.0.0.1:8080\r
 \r
@@ -37,7 +37,7 @@ Host: 127.0.0.1:8080\r
 \r
 ";
 
-/// The replies to them, byte for byte.
+/// Replies to the requests, byte for byte.
 const REPLIES: &str = "HTTP/1.1 201 Created\r
 Content-Type: application/json\r
 Content-Length: 84\r
@@ -58,7 +58,8 @@ Content-Length: 24\r
 \r
 {\"error\":\"NoSuchAction\"}";
 
-/// Sends the requests over one connection, and gives as many bytes as the replies are to have. Then it opens one more.
+/// Sends the requests over one connection, and returns as many bytes as the replies have to have. Then it opens one
+/// more.
 fn visit<R>(rt: &R, alloc: Global, address: SocketAddr) -> io::Result<Vec<u8>>
 where
     R: Net<Listener = TcpListener, Stream = TcpStream>,
@@ -73,7 +74,7 @@ where
     Ok(replies)
 }
 
-/// Answers one connection, and tells whether it ends so.
+/// Serves one connection, and returns whether it ends well.
 fn answers_one<V: Serving, R: Wait>(
     rt: &R,
     alloc: Global,
@@ -90,7 +91,7 @@ fn answers_one<V: Serving, R: Wait>(
     (clerk, end == ServeEnd::Done)
 }
 
-/// Two threads that answer a connection each, and whether both end so.
+/// Serves a connection in each of two threads, and returns whether both end well.
 fn two_answer<V: Serving + Send, R: Threads + Wait + Sync>(
     rt: &R,
     alloc: Global,
@@ -124,11 +125,11 @@ fn two_answer<V: Serving + Send, R: Threads + Wait + Sync>(
     (clerk, has_ended && other_has_ended)
 }
 
-/// A flag, set where both threads that answer a client end so, and the bytes that the client reads.
+/// A flag, set if both serving threads end well, and the bytes that the client reads.
 type Visited = (bool, io::Result<Vec<u8>>);
 
-/// Two workers that answer a connection each, beside a client of theirs: whether both end so, and what the client
-/// reads.
+/// Serves a connection by each of two workers, beside a client. Returns whether both end well, and the bytes that the
+/// client reads.
 fn visited<
     V: Serving + Send,
     R: Threads + Wait + Sync + Net<Listener = TcpListener, Stream = TcpStream>,
@@ -159,7 +160,7 @@ fn visited<
     Ok((clerk, (have_ended, replies)))
 }
 
-/// The same at a new office.
+/// Runs `visited` at a new office, and returns its writer too.
 fn visited_at<
     W: Write + Drop + Send,
     R: Threads + Wait + Sync + Net<Listener = TcpListener, Stream = TcpStream>,

@@ -1,5 +1,4 @@
-//! Tests of offices, of the lock that they stand on, and of the workers at them: over the public surface of these
-//! crates alone.
+//! Tests of offices, of the lock that they use, and of their workers, through the public API of these crates only.
 #![tactic(auto)]
 
 #[cfg(test)]

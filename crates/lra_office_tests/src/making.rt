@@ -1,4 +1,4 @@
-//! Offices as the tests make and end them. What works at an office in between borrows it.
+//! Offices as the tests make and end them. The work in between borrows an office.
 
 ghost use Rattle.std.specs.Prelude.{◌≡◌, true, IfOk};
 ghost use Rattle.lra_ids.specs.Addresses.{is_base};
@@ -17,7 +17,7 @@ use std::io::Write;
 use std::sync::Wait;
 use std::test::Fail;
 
-/// Returns what the URIs begin with.
+/// Returns the base of the URIs.
 pub fn base(alloc: Global) -> Result<Address, Fail>
     ensures { IfOk result (λ base. is_base base ≡ true) }
 {
@@ -30,7 +30,7 @@ pub fn base(alloc: Global) -> Result<Address, Fail>
     }
 }
 
-/// A new office with a writer, and the pass of its first clerk.
+/// Returns a new office with a writer, and the pass of its first clerk.
 pub fn made<W: Write + Drop>(alloc: Global, writer: W) -> Result<(Office<W>, Pass<Desk<W>>), Fail>
     ensures lock { IfOk result (λ r. pass_id r.1 ≡ lock_id r.0.lock) }
     ensures newcomer { IfOk result (λ r. (pass_view r.1).number ≡ 0) }
@@ -89,7 +89,7 @@ pub fn enrolled_two<V: Serving, R: Wait>(
     }
 }
 
-/// Shuts an office by its clerk, and gives its writer beside what was told.
+/// Shuts an office by its clerk, and returns its writer beside a result.
 pub fn ended<W: Write + Drop, T: Drop>(
     office: Office<W>,
     clerk: Clerk<Desk<W>>,
@@ -110,7 +110,7 @@ pub fn ended<W: Write + Drop, T: Drop>(
     }
 }
 
-/// Shuts an office after the work that was done there, and gives its writer beside what the work told.
+/// Shuts an office after work there, and returns its writer beside the work's result.
 pub fn shut<W: Write + Drop, T: Drop>(
     office: Office<W>,
     worked: Result<(Clerk<Desk<W>>, T), Fail>,
@@ -126,7 +126,7 @@ pub fn shut<W: Write + Drop, T: Drop>(
     }
 }
 
-/// The addresses of a participant at a host: of a compensation and a completion, and of its status where that is asked
+/// Returns the addresses of a participant at a host: to compensate, to complete, and for its status if that is asked
 /// for.
 pub fn participant(alloc: Global, host: &str, has_status: bool) -> Result<Uris, AllocError> {
     let status = if has_status {

@@ -1,17 +1,17 @@
-//! The signals that two threads give one another.
+//! Signals that two threads give one another.
 
 use std::sync::atomic::{AtomicBool, Ordering};
 use std::thread::sleep;
 use std::time::{Clock, Duration};
 
-/// The signals between a thread that holds something up and the thread beside it.
+/// Signals between a thread that holds something up and the thread beside it.
 #[derive(Drop)]
 pub struct Signals {
-    /// The first is to wait from now on.
+    /// The first thread has to wait from now on.
     pub armed: AtomicBool,
-    /// It has what the other asks for, and waits.
+    /// The first thread has what the other asks for, and waits.
     pub entered: AtomicBool,
-    /// It may go on.
+    /// The first thread may go on.
     pub answered: AtomicBool,
 }
 
@@ -25,7 +25,7 @@ impl Signals {
     }
 }
 
-/// Waits for a signal, ten seconds at most, and tells whether it came.
+/// Waits for a signal, ten seconds at most, and returns whether it came.
 pub fn wait_for<R: Clock>(rt: &R, signal: &AtomicBool) -> bool {
     for _ in 0..1_000 {
         if signal.load(Ordering::SeqCst) {

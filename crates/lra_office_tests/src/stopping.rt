@@ -1,4 +1,4 @@
-//! The state in which an office is left when its writer fails, and what goes on from there.
+//! The state of an office whose writer fails, and offices that are reopened from its journal.
 
 ghost use Rattle.std.specs.Prelude.{◌≡◌};
 ghost use Rattle.lra_office.specs.Clerks.{IsClerkOf};
@@ -18,11 +18,11 @@ use std::io::ErrorKind;
 use std::sync::Wait;
 use std::test::Fail;
 
-/// The journal of the commands below: a header, and a line for each command, the last of which has two.
+/// Journal of the commands below: a header, and a line for each command. The last command has two.
 const JOURNAL: &str =
     "lra-journal 2 7\n1 0 enrol\n1 10 start 1 * 0\n1 11 join 1 1 http://p.test/u http://p.test/c http://p.test/s * *\n1 12 join 2 1 http://q.test/u http://q.test/c * * *\n1 20 close 1 client\n1 21 ask 1 1 complete\n1 22 ask 2 2 complete\n1 23 reply 2 done\n1 24 reply 1 accepted\n1 30 report 1 done\n1 30 end 1 Closed\n";
 
-/// A writer with so much room, one of whose calls fails.
+/// Returns a writer with this room, one of whose calls fails.
 fn writer_with(alloc: Global, room: usize, bad_call: u32) -> Faulty {
     Faulty {
         taken: Vec::new(alloc),
@@ -34,10 +34,10 @@ fn writer_with(alloc: Global, room: usize, bad_call: u32) -> Faulty {
     }
 }
 
-/// The answers to each command after the enrolment, and to a status at the end, each by a letter.
+/// Answers to each command after the enrolment, and to a request for the status at the end, each as a letter.
 ///
-/// `t` where something was told, `S` where it was refused since the writer has failed, `x` where it was refused else,
-/// and `-` where nothing was to be done; of the status `a` for Active, `g` for Closing and `d` for Closed.
+/// `t` if the command was done, `S` if it was refused because the writer has failed, `x` if it was refused otherwise,
+/// and `-` if there was nothing to do. The status is `a` for Active, `g` for Closing and `d` for Closed.
 #[derive(Clone, Copy)]
 struct Answers {
     letters: [u8; 10],
@@ -45,7 +45,7 @@ struct Answers {
 }
 
 impl Answers {
-    /// Returns whether they are what is to come of the commands where so many were told something.
+    /// Returns whether these are the expected answers if this many commands were done.
     fn are_of(&self, told: usize) -> bool {
         match ANSWERS.lines().nth(told) {
             Some(letters) => letters.as_bytes() == self.letters.as_slice(),
@@ -93,9 +93,9 @@ fn refusal_letter(fault: OfficeRefusal) -> u8 {
     }
 }
 
-/// The answers that are to come of the commands, by how many of all ten were told something, the enrolment among them:
-/// the one whose text doesn't fit is stopped, and so is each later one that would write. What is refused anyhow, or
-/// writes nothing, is answered as ever. The first line is of none.
+/// Expected answers, by how many of all ten commands were done, the enrolment among them. The command whose text
+/// doesn't fit is refused as stopped, and so is each later one that would write. A command that is refused anyhow, or
+/// writes nothing, has its usual answer. The first line is for no command.
 const ANSWERS: &str = "\
 ----------
 Sxxx----xx
@@ -109,7 +109,7 @@ tttttttSSg
 ttttttttSg
 tttttttttd";
 
-/// Asks for something that is due.
+/// Asks for the next errand that is due.
 fn ask<R: Wait>(
     rt: &R,
     office: &Office<Faulty>,
@@ -132,7 +132,7 @@ fn ask<R: Wait>(
     }
 }
 
-/// Records what came of an ask, if there was one.
+/// Records the outcome of an ask, if there was one.
 fn record<R: Wait>(
     rt: &R,
     office: &Office<Faulty>,
@@ -162,7 +162,7 @@ fn record<R: Wait>(
     }
 }
 
-/// Starts the action, which both join, and closes it.
+/// Starts the action, lets both members join, and closes it.
 fn give_orders<R: Wait>(
     rt: &R,
     office: &Office<Faulty>,
@@ -180,7 +180,7 @@ fn give_orders<R: Wait>(
     answers.note_told(office.close(rt, clerk, 20, 1));
 }
 
-/// Asks both, and records what came of it.
+/// Asks both members, and records the outcomes.
 fn ask_both<R: Wait>(
     rt: &R,
     office: &Office<Faulty>,
@@ -196,7 +196,7 @@ fn ask_both<R: Wait>(
     record(rt, office, clerk, 24, one, Outcome::Accepted, answers);
 }
 
-/// The commands of the journal, but for the first, and then a status.
+/// Gives the commands of the journal after the first, and then asks for a status.
 fn give_all<R: Wait>(
     rt: &R,
     office: &Office<Faulty>,
@@ -215,8 +215,7 @@ fn give_all<R: Wait>(
     answers
 }
 
-/// The writer of an office, and what came of the commands there. Where the clerk's enrolment was stopped, there is
-/// none.
+/// Writer of an office, and the answers there. There are none if the clerk's enrolment was stopped.
 type Ran = Option<(Faulty, Answers)>;
 
 /// Gives the commands by a clerk, and shuts the office.
@@ -277,7 +276,7 @@ fn run<R: Wait>(
     }
 }
 
-/// The lines that end in so many bytes.
+/// Counts the lines that end in these bytes.
 fn count_lines(bytes: &[u8]) -> u32 {
     let mut lines = 0u32;
     for byte in bytes {
@@ -288,8 +287,8 @@ fn count_lines(bytes: &[u8]) -> u32 {
     lines
 }
 
-/// Returns how many commands have all their lines among so many: the first line is the header, and the last command has
-/// two.
+/// Returns how many commands have all their lines among the first `lines`: the first line is the header, and the last
+/// command has two.
 fn fitting(lines: u32) -> usize {
     if lines == 12 {
         return 10;
@@ -297,8 +296,7 @@ fn fitting(lines: u32) -> usize {
     lines.saturating_sub(1).min(9) as usize
 }
 
-/// Returns whether a writer with so much room has taken just so many bytes, and the commands were answered as where
-/// that many fit.
+/// Returns whether a writer with this room has exactly these bytes, and the answers are those of the commands that fit.
 fn stops_in_time<R: Wait>(
     rt: &R,
     alloc: Global,
@@ -318,7 +316,7 @@ fn stops_in_time<R: Wait>(
     }
 }
 
-/// Returns whether a writer whose one call goes wrong isn't called again, and has taken what was written before.
+/// Returns whether a writer isn't called again after its bad call, and has what was written before.
 fn is_left_alone<R: Wait>(
     rt: &R,
     alloc: Global,
@@ -340,7 +338,7 @@ fn is_left_alone<R: Wait>(
     }
 }
 
-/// Returns what an office has written that goes on from a journal, once an action was started there and it is shut.
+/// Starts an action at an office that goes on from a journal, shuts the office, and returns what it has written.
 fn started_at<R: Wait>(
     rt: &R,
     office: Office<Faulty>,
@@ -359,8 +357,7 @@ fn started_at<R: Wait>(
     }
 }
 
-/// Returns what reopening a journal's bytes comes to: the fault, or what was written of it and of an action that was
-/// started then.
+/// Reopens a journal's bytes and starts an action. Returns the fault, or the bytes that were written.
 fn go_on<R: Wait>(
     rt: &R,
     alloc: Global,
@@ -385,15 +382,15 @@ fn go_on<R: Wait>(
     }
 }
 
-/// Returns whether a journal's lines and what was written after them make a sound journal.
+/// Returns whether a journal's lines, followed by what was written, are a sound journal.
 fn is_sound(alloc: Global, lines: &[u8], written: &[u8]) -> Result<bool, Fail> {
     let mut journal = Vec::from_slice(alloc, lines)?;
     journal.extend_from_slice(written)?;
     Ok(matches!(audit(alloc, journal.as_slice())?, Verdict::Sound(_)))
 }
 
-/// Returns whether so many bytes of the journal are reopened just where they have its header, and what is written then
-/// makes a sound journal.
+/// Returns whether this many bytes of the journal are reopened exactly if they contain its header, and what is written
+/// then makes a sound journal.
 fn reopens<R: Wait>(rt: &R, alloc: Global, room: usize) -> Result<bool, Fail> {
     let (front, _) = JOURNAL.as_bytes().split_at(room.min(JOURNAL.len()));
     match go_on(rt, alloc, front, 31)? {
@@ -409,7 +406,7 @@ fn reopens<R: Wait>(rt: &R, alloc: Global, room: usize) -> Result<bool, Fail> {
     }
 }
 
-/// The first room at which reopening comes to something else.
+/// Returns the first room at which reopening has an unexpected result.
 fn first_unsound<R: Wait>(rt: &R, alloc: Global) -> Result<Option<usize>, Fail> {
     for room in 0..JOURNAL.len() + 1 {
         if !reopens(rt, alloc, room)? {
@@ -419,7 +416,7 @@ fn first_unsound<R: Wait>(rt: &R, alloc: Global) -> Result<Option<usize>, Fail> 
     Ok(None)
 }
 
-/// Returns whether a journal is sound, and gone on from by these lines.
+/// Returns whether a journal is sound, and an office that is reopened from it writes these lines.
 fn goes_on_by<R: Wait>(
     rt: &R,
     alloc: Global,
@@ -437,11 +434,11 @@ fn goes_on_by<R: Wait>(
     }
 }
 
-/// A journal whose last block lacks its end, and a torn line.
+/// Journal whose last block lacks its end, and has a torn line.
 const TORN: &str =
     "lra-journal 1 7\n1 0 enrol\n1 0 start 1 * 0\n1 1 join 1 1 http://p.test/u * * * *\n1 2 close 1 client\n1 2 sk";
 
-/// Returns whether the torn journal, where only seven entries fit, is refused before the writer is called.
+/// Returns whether the torn journal is refused before the writer is called if only seven entries fit.
 fn is_full(alloc: Global) -> Result<bool, Fail> {
     let journal = Vec::from_slice(alloc, TORN.as_bytes())?;
     let limits = Limits {
@@ -458,7 +455,7 @@ fn is_full(alloc: Global) -> Result<bool, Fail> {
     }
 }
 
-/// The first room, or the first call, at which something else happens than what is to come of the commands.
+/// Returns the first room, or the first bad call, at which the commands have an unexpected result.
 fn first_astray<R: Wait>(
     rt: &R,
     alloc: Global,
@@ -487,7 +484,8 @@ fn a_writer_that_fails_is_called_no_more(rt: HostRuntime) -> Result<(), Fail> {
     Ok(())
 }
 
-/// Returns whether a torn journal is gone on from by the end that it lacks, and one without its last end by that.
+/// Returns whether reopening adds the end that a torn journal lacks, and the end that a journal without its last line
+/// lacks.
 fn lacking_ends_are_added<R: Wait>(rt: &R, alloc: Global) -> Result<bool, Fail> {
     let torn = "2 9 enrol\n2 9 skip 1\n2 9 end 1 Closed\n2 9 restart\n2 9 start 2 * 0\n";
     let is_mended = goes_on_by(rt, alloc, TORN, 9, torn)?;

@@ -1,4 +1,4 @@
-//! Sixteen threads at one office: what each of them did stands in the journal once, and in order.
+//! Sixteen threads at one office: each entry that one of them wrote is in the journal once, and in order.
 
 ghost use Rattle.std.specs.Prelude.{◌≡◌, [], All, IfOk, OnOk};
 ghost use Rattle.lra_office.specs.Clerks.{IsClerkOf};
@@ -20,16 +20,16 @@ use std::thread::{self, Threads};
 
 const THREADS: u32 = 16;
 
-/// The clerks up to this number ask members, and take down what comes of it.
+/// The clerks up to this number ask members, and record the outcomes.
 const ASKING: u32 = 2;
 
-/// The commands of each thread.
+/// Commands of each thread.
 const COMMANDS: u64 = 1_000;
 
-/// The number of turns from one start of an action to the next.
+/// Number of turns from one start of an action to the next.
 const STARTING: u64 = 50;
 
-/// The entry that a command writes first.
+/// Entry that a command writes first.
 #[derive(Clone, Copy, PartialEq, Eq)]
 enum Own {
     Start(u64),
@@ -40,7 +40,7 @@ enum Own {
     Reply(u64),
 }
 
-/// The entry of a command, if it is one and no end.
+/// Returns the entry of a command, if this is one, and not an end.
 fn own_entry(entry: &Entry) -> Option<Own> {
     match &entry.deed {
         Deed::Start { action, .. } => Some(Own::Start(*action)),
@@ -53,8 +53,8 @@ fn own_entry(entry: &Entry) -> Option<Own> {
     }
 }
 
-/// Takes down what a command wrote, by what it was told: the decision, where it was one. Nothing comes back where it
-/// was told something else than it may be.
+/// Notes the entry that a command wrote, by its answer: the decision, if it was one. Returns none if a command can't
+/// have that answer.
 fn note(
     written: &mut Vec<Own>,
     decision: Option<Own>,
@@ -73,13 +73,13 @@ fn note(
     written.push(own).ok()
 }
 
-/// The addresses of the member that joins at this turn of a clerk.
+/// Returns the addresses of the member that joins at this turn of a clerk.
 fn joining(alloc: Global, number: u32, turn: u64) -> Result<Uris, AllocError> {
     let host = format!(in alloc; "http://p{number}.test/{turn}")?;
     participant(alloc, &host, false)
 }
 
-/// Returns what comes of an ask: every seventh fails.
+/// Returns the outcome of an ask: every seventh fails.
 fn outcome_of(ask: u64) -> Outcome {
     if ask % 7 == 0 {
         Outcome::Failed
@@ -88,7 +88,7 @@ fn outcome_of(ask: u64) -> Outcome {
     }
 }
 
-/// A thread that works at an office.
+/// Worker thread at an office.
 #[derive(Drop)]
 struct Worker<'a, V: Serving, R> {
     rt: &'a R,
@@ -134,7 +134,8 @@ impl<V: Serving, R: Wait> Worker<'_, V, R> {
         note(&mut self.written, None, told)
     }
 
-    /// A command on an action that was started lately, by whichever thread: the latest is its own.
+    /// Gives a command on one of the last three actions, whichever thread started them. `latest` is the worker's own
+    /// last one.
     fn act_on(&mut self, turn: u64, latest: u64) -> Option<()> {
         let action = latest.saturating_sub(turn % 3).max(1);
         match turn % 8 {
@@ -157,7 +158,7 @@ impl<V: Serving, R: Wait> Worker<'_, V, R> {
         Some(())
     }
 
-    /// Asks who is to be asked, and takes down what comes of it. Where no one is, it tells a status.
+    /// Asks the next member that is due, and records the outcome. If none is due it asks for a status.
     fn ask(&mut self, moment: u64) -> Option<()> {
         match self.office.next_ask(self.rt, &mut self.clerk, moment) {
             Ok(Some(errand)) => self.answer(moment, errand),
@@ -166,7 +167,7 @@ impl<V: Serving, R: Wait> Worker<'_, V, R> {
         }
     }
 
-    /// Takes down that what is asked is done, or has failed.
+    /// Records that an ask is done, or has failed.
     fn answer(&mut self, moment: u64, errand: Errand) -> Option<()> {
         let ask = errand.ask();
         let outcome = outcome_of(ask);
@@ -186,13 +187,13 @@ impl<V: Serving, R: Wait> Worker<'_, V, R> {
         }
     }
 
-    /// Takes down an ask and its reply.
+    /// Notes an ask and its reply.
     fn note_reply(&mut self, ask: u64, told: Told) -> Option<()> {
         self.written.push(Own::Ask(ask)).ok()?;
         note(&mut self.written, Some(Own::Reply(ask)), Ok(told))
     }
 
-    /// Tells the status of the first action, if there is one.
+    /// Asks for the status of the first action, if there is one.
     fn tell(&mut self) -> Option<()> {
         match self.office.status(self.rt, &mut self.clerk, 1) {
             Ok(_) => Some(()),
@@ -210,7 +211,7 @@ impl<V: Serving, R: Wait> Worker<'_, V, R> {
         Some(())
     }
 
-    /// Does all its commands, where each is told what it may be.
+    /// Gives all its commands. Returns none once an answer isn't one that the command may have.
     fn work(&mut self) -> Option<()> {
         if self.number <= ASKING {
             self.ask_all()
@@ -219,7 +220,7 @@ impl<V: Serving, R: Wait> Worker<'_, V, R> {
         }
     }
 
-    /// Returns what its commands wrote.
+    /// Returns the entries that its commands wrote.
     fn into_written(self) -> Vec<Own> {
         let Worker { clerk, written, .. } = self;
         drop(clerk);
@@ -227,7 +228,7 @@ impl<V: Serving, R: Wait> Worker<'_, V, R> {
     }
 }
 
-/// Returns what a clerk with this number writes.
+/// Returns the entries that the clerk with this number writes.
 fn work_of<V: Serving, R: Wait>(
     rt: &R,
     alloc: Global,
@@ -250,7 +251,7 @@ fn work_of<V: Serving, R: Wait>(
     done.map(|()| written)
 }
 
-/// Adds clerks with the numbers from 1 on, and gives a pass for one more.
+/// Adds clerks with the numbers from 1 on, and returns a pass for one more.
 fn clerks<V: Serving, R: Wait>(
     rt: &R,
     office: &OfficeOf<V>,
@@ -272,10 +273,10 @@ fn clerks<V: Serving, R: Wait>(
     Ok(pass)
 }
 
-/// The entries that each thread wrote.
+/// Entries that each thread wrote.
 type Written = Result<Vec<Option<Vec<Own>>>, AllocError>;
 
-/// Returns what each clerk writes, in a thread of its own.
+/// Returns the entries that each clerk writes, in a thread of its own.
 fn work_all<V: Serving + Send, R: Threads + Wait + Sync>(
     rt: &R,
     alloc: Global,
@@ -293,7 +294,7 @@ fn work_all<V: Serving + Send, R: Threads + Wait + Sync>(
     )
 }
 
-/// Returns what each thread wrote at an office, and a clerk that is enrolled once all have ended.
+/// Returns the entries that each thread wrote at an office, and a clerk that is enrolled once all have ended.
 fn work_at<V: Serving + Send, R: Threads + Wait + Sync>(
     rt: &R,
     alloc: Global,
@@ -316,7 +317,7 @@ fn work_at<V: Serving + Send, R: Threads + Wait + Sync>(
     }
 }
 
-/// The writer once all threads have ended, and what each of them wrote.
+/// Returns the writer once all threads have ended, and the entries that each of them wrote.
 fn run<W: Write + Drop + Send, R: Threads + Wait + Sync>(
     rt: &R,
     alloc: Global,
@@ -345,7 +346,7 @@ fn are_of(entries: &[Entry], number: u32, written: &[Own]) -> bool {
     left.is_empty()
 }
 
-/// The summary of a sound journal.
+/// Returns the summary of a sound journal.
 fn summary(alloc: Global, journal: &[u8]) -> Result<Summary, Fail> {
     match audit(alloc, journal)? {
         Verdict::Sound(summary) => Ok(summary),
@@ -353,8 +354,8 @@ fn summary(alloc: Global, journal: &[u8]) -> Result<Summary, Fail> {
     }
 }
 
-/// Returns whether what each thread wrote stands among the entries once and in order, under its clerk's number, and how
-/// many entries that is in all.
+/// Returns whether each thread's entries are there once and in order, under its clerk's number, and how many entries
+/// these are in all.
 fn stand_among(entries: &[Entry], written: &[Option<Vec<Own>>]) -> Result<(bool, u64), Fail> {
     let mut stand = true;
     let mut count = 0u64;
@@ -368,7 +369,7 @@ fn stand_among(entries: &[Entry], written: &[Option<Vec<Own>>]) -> Result<(bool,
     Ok((stand, count))
 }
 
-/// The same of a journal's entries.
+/// Runs `stand_among` on a journal's entries.
 fn stand_in(
     alloc: Global,
     journal: &[u8],
@@ -380,8 +381,8 @@ fn stand_in(
     told
 }
 
-/// Returns whether what each thread wrote stands in the journal, how many entries that is, and the summary of the
-/// journal.
+/// Returns whether each thread's entries are in the journal once and in order, how many these are, and the journal's
+/// summary.
 fn told_of(alloc: Global, journal: &[u8], written: &Written) -> Result<(bool, u64, Summary), Fail> {
     let Ok(written) = written else {
         return Err("there is memory for all")?;

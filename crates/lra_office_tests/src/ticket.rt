@@ -1,4 +1,4 @@
-//! The lock, with a list of entries behind it.
+//! The lock, which guards a list of entries.
 ghost use Rattle.std.specs.Prelude.{◌≡◌, ◌≢◌, ℕ, ◌<◌, [], ◌∷◌, ◌++◌, true, if◌then◌else◌, IfOk, IfSome};
 ghost use Rattle.std.specs.Thread.{IsSync};
 ghost use Rattle.lra_ticket.specs.History.{entries_by};
@@ -36,7 +36,7 @@ fn has_none_by(entries: &Vec<Entry>, number: u32) -> bool
     true
 }
 
-// Adds one entry, if there is memory, and says whether it did.
+// Adds an entry, if there is memory, and returns whether it did.
 fn push(entries: &mut Vec<Entry>, entry: Entry) -> bool
     ensures { entries.new.items ≡ (if result then entries.old.items ++ entry ∷ [] else entries.old.items) }
 {
@@ -49,8 +49,8 @@ fn push(entries: &mut Vec<Entry>, entry: Entry) -> bool
     }
 }
 
-// Adds one entry under the holder's number, and gives the list back. Where memory is refused, the counts of the test
-// are short.
+// Adds an entry under the holder's number, and gives the list back. If memory is refused the entry is missing in the
+// test's counts.
 fn write(
     lock: &EntryLock,
     held: Held<Vec<Entry>>,
@@ -68,7 +68,7 @@ fn write(
     lock.give(held, entries)
 }
 
-// Writes the first entry of a number, where no other has it.
+// Adds the first entry of a number, unless the number has one already.
 fn enrol(
     lock: &EntryLock,
     held: Held<Vec<Entry>>,
@@ -89,7 +89,7 @@ fn enrol(
     None
 }
 
-// One block under the lock, after a wait. Where memory is refused, it asks once more.
+// Adds a block under the lock, after a wait. If memory is refused it tries once more.
 fn append<R: Wait>(
     rt: &R,
     lock: &EntryLock,
@@ -111,7 +111,7 @@ fn append<R: Wait>(
     }
 }
 
-// The same, after one try that does not wait.
+// Adds a block under the lock. It first tries to take the lock without a wait, and waits if that is busy.
 fn append_soon<R: Wait>(
     rt: &R,
     lock: &EntryLock,
@@ -148,7 +148,7 @@ fn first_block<R: Wait>(rt: &R, lock: &EntryLock, pass: EntryPass, number: u32) 
     }
 }
 
-// The same with no wait.
+// Takes the lock for its first block without a wait. Returns none if the lock is busy.
 fn first_block_soon(lock: &EntryLock, pass: EntryPass, number: u32) -> Option<EntryPass>
     requires lock { pass_id pass ≡ lock_id lock.now }
     requires number { ((pass_view pass).number ≡ 0) × (number ≢ 0) }
@@ -187,7 +187,7 @@ fn clerk<R: Wait>(
     Some(pass)
 }
 
-// One pass of two, where there are both.
+// Joins two passes into one, if there are both.
 fn join_both(
     lock: &EntryLock,
     one: Option<EntryPass>,
@@ -208,7 +208,7 @@ fn join_both(
     Some(lock.join(one, other))
 }
 
-// Two clerks in two threads, under this number and the next.
+// Runs two clerks in two threads, under this number and the next.
 fn two<R: Threads + Wait + Sync>(
     rt: &R,
     lock: &EntryLock,
@@ -235,7 +235,7 @@ fn two<R: Threads + Wait + Sync>(
     join_both(lock, one, other)
 }
 
-// Four, in four threads.
+// Runs four clerks in four threads, under this number and the next three.
 fn four<R: Threads + Wait + Sync>(
     rt: &R,
     lock: &EntryLock,
@@ -264,7 +264,7 @@ fn four<R: Threads + Wait + Sync>(
     join_both(lock, one, other)
 }
 
-// Takes the lock, says so, and gives it back once it is told to. True where it was had.
+// Takes the lock, signals that, and gives it back on a signal. Returns whether the lock was taken and that signal came.
 fn hold<R: Wait + Clock>(rt: &R, lock: &EntryLock, pass: EntryPass, signals: &Signals) -> bool
     requires { pass_id pass ≡ lock_id lock.now }
 {
@@ -282,7 +282,7 @@ fn hold<R: Wait + Clock>(rt: &R, lock: &EntryLock, pass: EntryPass, signals: &Si
     }
 }
 
-// Tries once, as soon as it is told that the lock is held. True where the answer is Busy.
+// Tries once, after the signal that the lock is held. Returns whether the try was busy.
 fn try_once<R: Clock>(rt: &R, lock: &EntryLock, pass: EntryPass, signals: &Signals) -> bool
     requires { pass_id pass ≡ lock_id lock.now }
 {
@@ -316,7 +316,7 @@ fn give_unchanged(lock: &EntryLock, held: Held<Vec<Entry>>, entries: Vec<Entry>)
     lock.give(held, entries)
 }
 
-// The pass, where a try answers that no ticket is left.
+// Tries to take the lock, and returns the pass if no ticket is left.
 fn try_worn(lock: &EntryLock, pass: EntryPass) -> Option<EntryPass>
     requires { pass_id pass ≡ lock_id lock.now }
     ensures { IfSome result (λ p. pass_id p ≡ lock_id lock.now) }
@@ -334,7 +334,7 @@ fn try_worn(lock: &EntryLock, pass: EntryPass) -> Option<EntryPass>
     }
 }
 
-// The pass, where both ways to take the lock answer so.
+// Takes the lock in both ways, and returns the pass if no ticket is left for either.
 fn find_worn<R: Wait>(rt: &R, lock: &EntryLock, pass: EntryPass) -> Option<EntryPass>
     requires { pass_id pass ≡ lock_id lock.now }
     ensures { IfSome result (λ p. pass_id p ≡ lock_id lock.now) }
@@ -348,7 +348,7 @@ fn find_worn<R: Wait>(rt: &R, lock: &EntryLock, pass: EntryPass) -> Option<Entry
     }
 }
 
-// True where the second thread found the lock held by the first.
+// Returns whether the second thread found the lock held by the first.
 fn overlap<R: Threads + Wait + Clock + Sync>(
     rt: &R,
     lock: &EntryLock,
@@ -370,7 +370,7 @@ fn overlap<R: Threads + Wait + Clock + Sync>(
     was_told && was_busy
 }
 
-// Whether the entries of the number have the moments from 0 up to this many, in order.
+// Returns whether the entries of a number have the moments from 0 up to this many, in order.
 fn counts_up(entries: &[Entry], number: u32, blocks: u64) -> bool {
     let mut next = 0u64;
     for entry in entries {
@@ -384,8 +384,8 @@ fn counts_up(entries: &[Entry], number: u32, blocks: u64) -> bool {
     next == blocks.wrapping_add(1)
 }
 
-// Whether there are so many entries, and those of each of these numbers have the moments from 0 up to this many, in
-// order.
+// Returns whether there are `len` entries, and those of each of these numbers have the moments from 0 up to `blocks`,
+// in order.
 fn has(entries: &[Entry], len: usize, numbers: &[u32], blocks: u64) -> bool {
     let mut has = entries.len() == len;
     for number in numbers {
@@ -394,7 +394,7 @@ fn has(entries: &[Entry], len: usize, numbers: &[u32], blocks: u64) -> bool {
     has
 }
 
-// The entries of a lock that no one holds.
+// Closes a lock that isn't held, and returns its entries.
 fn closed(lock: EntryLock, pass: Option<EntryPass>) -> Option<Vec<Entry>>
     requires { IfSome pass (λ p. pass_id p ≡ lock_id lock) }
     ensures { IfSome result (λ entries. entries_by 0 entries.items ≡ []) }
@@ -412,7 +412,7 @@ fn closed(lock: EntryLock, pass: Option<EntryPass>) -> Option<Vec<Entry>>
     }
 }
 
-// Whether no one holds the lock, and it has such entries.
+// Returns whether the lock isn't held, and has such entries.
 fn ends_with(
     lock: EntryLock,
     pass: Option<EntryPass>,
@@ -432,7 +432,7 @@ fn ends_with(
     }
 }
 
-// A list of one entry, under the number 2.
+// Returns a list of one entry, under the number 2.
 fn one_entry(alloc: Global) -> Result<Vec<Entry>, Memory>
     ensures lawful { IfOk result (λ entries. entries_by 0 entries.items ≡ []) }
     ensures number { IfOk result (λ entries. entries_by 2 entries.items ≢ []) }
@@ -482,7 +482,7 @@ fn a_lock_without_a_ticket_gives_its_value_back(rt: HostRuntime) -> Result<(), F
     Ok(())
 }
 
-// A pass that is split, enrolled without a wait, met and joined, and has then added a block.
+// Splits a pass, enrols without a wait, meets and joins the passes, and adds a block.
 fn split_meet_and_join<R: Wait>(rt: &R, lock: &EntryLock, pass: EntryPass) -> Option<EntryPass>
     requires lock { pass_id pass ≡ lock_id lock.now }
     requires newcomer { (pass_view pass).number ≡ 0 }
@@ -521,7 +521,7 @@ fn a_refused_close_hands_lock_and_pass_back(rt: HostRuntime) -> Result<(), Fail>
     Ok(())
 }
 
-// The two tickets of a new lock round such entries that starts at 5, and whether it has them.
+// Returns the two tickets of a new lock that starts at 5, and whether it has the entries.
 fn parts_of_new(alloc: Global, entries: Vec<Entry>) -> Result<(u64, u64, bool), Memory>
     requires { entries_by 0 entries.items ≡ [] }
 {
@@ -542,7 +542,7 @@ fn a_lock_made_for_a_number_goes_on_under_it(rt: HostRuntime) -> Result<(), Fail
     Ok(())
 }
 
-// The pass of one of two clerks that has added its blocks: the second, where the first was refused memory.
+// Runs one of two clerks: the second if the first was refused memory. Returns its pass.
 fn one_of_two<R: Wait>(rt: &R, lock: &EntryLock, pass: EntryPass) -> Option<EntryPass>
     requires lock { pass_id pass ≡ lock_id lock.now }
     requires newcomer { (pass_view pass).number ≡ 0 }
@@ -558,7 +558,7 @@ fn one_of_two<R: Wait>(rt: &R, lock: &EntryLock, pass: EntryPass) -> Option<Entr
     }
 }
 
-// Where one growth is refused, each call answers so and leaves the lock as it was, so that a second one succeeds.
+// If a growth is refused each call reports that and leaves the lock as it was, so that a second call succeeds.
 #[test]
 fn a_refused_growth_changes_nothing(rt: HostRuntime) -> Result<(), Fail> {
     let (lock, pass) = match EntryLock::new(rt.alloc(), Vec::new(rt.alloc())) {

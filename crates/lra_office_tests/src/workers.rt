@@ -23,7 +23,7 @@ use std::test::Fail;
 use std::thread::{Threads, join, sleep};
 use std::time::{self, Duration};
 
-/// Members that have done at once what they are asked.
+/// Members that do at once what they are asked.
 #[derive(Drop)]
 struct Prompt;
 
@@ -44,7 +44,7 @@ impl Courier for Prompt {
     ghost suits = { λ ask kind outcome h. h };
 }
 
-/// A clock that stands still.
+/// Clock that stands still.
 #[derive(Drop)]
 pub struct Still;
 
@@ -58,7 +58,7 @@ impl Clock for Still {
     }
 }
 
-/// A gate that holds each errand back so often, and ends its worker once something was answered. It counts how often it
+/// Gate that holds each errand back `holds` times, and ends its worker after the first answer. It counts how often it
 /// was asked.
 #[derive(Drop)]
 struct Holding {
@@ -86,7 +86,7 @@ impl Gate for Holding {
     }
 }
 
-/// A gate that lets one errand be carried, and holds the first ask's back until the second was answered.
+/// Gate that lets one errand go, and holds that of the first ask back until the second ask was answered.
 #[derive(Drop)]
 struct Patient<'a, R> {
     rt: &'a R,
@@ -133,7 +133,7 @@ fn joins<V: Serving, R: Wait>(
     Ok(told == Ok(Told::Member(member)))
 }
 
-/// Closes an action with so many members.
+/// Starts an action with this many members, and closes it.
 fn closes<V: Serving, R: Wait>(
     rt: &R,
     alloc: Global,
@@ -152,7 +152,8 @@ fn closes<V: Serving, R: Wait>(
     Ok(closed && done)
 }
 
-/// Returns how a worker ends whose gate holds its errand back so often, and how often the gate was asked.
+/// Runs a worker whose gate holds its errand back `holds` times. Returns the worker's end, and how often the gate was
+/// asked.
 fn holds_back<V: Serving, R: Wait>(
     rt: &R,
     office: &OfficeOf<V>,
@@ -171,7 +172,7 @@ fn holds_back<V: Serving, R: Wait>(
     (clerk, (end, gate.asked))
 }
 
-/// The same once the first clerk of an office has closed an action with one member.
+/// Closes an action with one member by the first clerk of an office, and then runs `holds_back`.
 fn held_at<V: Serving, R: Wait>(
     rt: &R,
     alloc: Global,
@@ -197,18 +198,18 @@ fn held_at<V: Serving, R: Wait>(
     }
 }
 
-/// The same at a new office, with its journal.
+/// Runs `held_at` at a new office, and returns its journal too.
 fn held<R: Wait>(rt: &R, alloc: Global, holds: u32) -> Result<(Vec<u8>, (WorkerEnd, u32)), Fail> {
     let (office, pass) = made(alloc, Vec::new(alloc))?;
     let worked = held_at(rt, alloc, &office, pass, holds);
     shut(office, worked)
 }
 
-/// The journal of an errand that is held back. What is added where it is answered comes after it.
+/// Journal of an errand that is held back. The entries of an answer come after it.
 const HELD: &str =
     "lra-journal 2 7\n1 0 enrol\n1 1 start 1 * 0\n1 2 join 1 1 http://p1.test/u http://p1.test/c * * *\n1 3 close 1 client\n1 9 ask 1 1 complete\n";
 
-/// Takes down how the worker ended, how often its gate was asked, and what was added to the journal.
+/// Writes the worker's end, how often its gate was asked, and what was added to the journal.
 fn tell_held<R: Wait>(rt: &R, alloc: Global, holds: u32, text: &mut String) -> Result<(), Fail> {
     let (journal, (end, asked)) = held(rt, alloc, holds)?;
     let journal = from_utf8(&journal)?;
@@ -217,7 +218,7 @@ fn tell_held<R: Wait>(rt: &R, alloc: Global, holds: u32, text: &mut String) -> R
     Ok(())
 }
 
-/// The outcome of an errand that is held back just short of for ever, for ever, and longer still.
+/// Outcomes of errands that are held back almost to the limit, up to it, and for longer.
 const TOLD: &str = "Ended 1000\n1 9 reply 1 done\n1 9 end 1 Closed\nHeld 1000\nHeld 1000\n";
 
 #[test]
@@ -230,7 +231,7 @@ fn a_worker_that_is_held_back_ends_and_leaves_its_ask(rt: HostRuntime) -> Result
     Ok(())
 }
 
-/// A worker that answers one ask, and whether it ends so.
+/// Runs a worker that answers one ask, and returns whether it ends well.
 fn answers_one<V: Serving, R: Wait + time::Clock>(
     rt: &R,
     office: &OfficeOf<V>,
@@ -249,7 +250,7 @@ fn answers_one<V: Serving, R: Wait + time::Clock>(
     (clerk, end == WorkerEnd::Ended)
 }
 
-/// Two workers, each in a thread of its own, and whether both ended.
+/// Runs two workers, each in a thread of its own, and returns whether both end well.
 fn two_answer<V: Serving + Send, R: Threads + Wait + time::Clock + Sync>(
     rt: &R,
     office: &OfficeOf<V>,
@@ -278,7 +279,7 @@ fn two_answer<V: Serving + Send, R: Threads + Wait + time::Clock + Sync>(
     (clerk, has_ended && other_has_ended)
 }
 
-/// Two workers at an office where two asks are due.
+/// Runs two workers at an office where two asks are due.
 fn overlap<V: Serving + Send, R: Threads + Wait + time::Clock + Sync>(
     rt: &R,
     alloc: Global,
@@ -304,7 +305,7 @@ fn overlap<V: Serving + Send, R: Threads + Wait + time::Clock + Sync>(
     }
 }
 
-/// The same at a new office, with its writer.
+/// Runs `overlap` at a new office, and returns its writer too.
 fn overlap_at<W: Write + Drop + Send, R: Threads + Wait + time::Clock + Sync>(
     rt: &R,
     alloc: Global,

@@ -1,4 +1,4 @@
-//! Tests of the operators' port: whole requests and what each is replied, over a service with a small history.
+//! Tests of the operators' server: whole requests and their replies, over a service with a small history.
 #![tactic(auto)]
 
 #[cfg(test)]

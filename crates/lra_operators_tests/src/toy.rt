@@ -1,5 +1,5 @@
 //! A service with a history of three actions: action 2 is nested in action 1, and has two members. Action 3 has ended,
-//! and its member is still to be told so.
+//! and its member is still to be notified of that.
 
 ghost use Rattle.std.specs.Prelude.{◌≡◌, true, IfSome};
 ghost use Rattle.lra_ids.specs.Addresses.{is_base};
@@ -11,10 +11,10 @@ use lra_outcomes::{Attempt, Reply};
 use lra_overview::{Facts, Overview};
 use std::alloc::Global;
 
-/// The number of milliseconds that pass from one look at the service to the next.
+/// Time that passes from one call of `facts` to the next, in milliseconds.
 const STEP: u64 = 1_500;
 
-/// The facts that are known beside the history, at first.
+/// Facts that are known beside the history, at first.
 const FACTS: Facts = Facts {
     moment: 9_000,
     began: 1_500,
@@ -48,7 +48,7 @@ pub(crate) struct Toy {
     pub(crate) given: u64,
 }
 
-/// The base of the service.
+/// Returns the base of the service.
 fn base(alloc: Global) -> Option<Address>
     ensures { IfSome result (λ base. is_base base ≡ true) }
 {
@@ -58,7 +58,7 @@ fn base(alloc: Global) -> Option<Address>
     }
 }
 
-/// One that was given no order.
+/// Returns a service that was given no order.
 pub(crate) fn new_toy(alloc: Global) -> Option<Toy> {
     let base = Base::of(base(alloc)?);
     Some(Toy {
@@ -68,7 +68,7 @@ pub(crate) fn new_toy(alloc: Global) -> Option<Toy> {
     })
 }
 
-/// The status of an action, if it is there.
+/// Returns the status of an action, if there is such an action.
 fn action_status(action: u64) -> Option<ActionStatus> {
     match action {
         1 => Some(ActionStatus::Active),
@@ -86,7 +86,8 @@ fn action_row(action: u64, status: ActionStatus) -> Row {
     }
 }
 
-/// The row at a place of all actions. Where it isn't of the status that is asked for, the place behind it is told.
+/// Returns the row at a place of all actions. If it isn't of the status that is asked for, it returns the place after
+/// it.
 fn action_at(status: Option<ActionStatus>, place: u64) -> Known {
     let action = place.saturating_add(1);
     match (action_status(action), status) {
@@ -99,7 +100,7 @@ fn action_at(status: Option<ActionStatus>, place: u64) -> Known {
     }
 }
 
-/// A member that is being asked.
+/// Member that is being asked.
 const ASKED: Row = Row::Member {
     member: 1,
     status: MemberStatus::Completing,
@@ -107,7 +108,7 @@ const ASKED: Row = Row::Member {
     want: None,
 };
 
-/// One that was asked in vain, and is asked again later.
+/// Member that was asked in vain, and is asked again later.
 const SILENT: Row = Row::Member {
     member: 2,
     status: MemberStatus::Active,
@@ -119,7 +120,7 @@ const SILENT: Row = Row::Member {
     }),
 };
 
-/// One that is still to be told how its action ended.
+/// Member that is still to be notified of its action's end.
 const UNTOLD: Row = Row::Member {
     member: 3,
     status: MemberStatus::Completed,
@@ -131,7 +132,7 @@ const UNTOLD: Row = Row::Member {
     }),
 };
 
-/// The row of a listing at a place.
+/// Returns the row of a listing at a place.
 fn row_at(of: Listing, place: u64) -> Known {
     match (of, place) {
         (Listing::Actions { status }, _) => action_at(status, place),
@@ -146,7 +147,7 @@ fn row_at(of: Listing, place: u64) -> Known {
     }
 }
 
-/// Returns whether the row at a place belongs to a listing, as a count of 1 or 0, and the place behind it.
+/// Returns whether the row at a place belongs to a listing, as a count of 1 or 0, and the place after it.
 fn count_at(of: Listing, place: u64) -> Known {
     match row_at(of, place) {
         Known::Row { .. } => Known::Counted {

@@ -1,5 +1,4 @@
-//! Tests of small parts of the service, over public surfaces alone: rules for members, what is logged, and what is
-//! taken down of syncs.
+//! Tests of small parts of the service, through public APIs only: rules for members, the log, and the record of syncs.
 #![tactic(auto)]
 
 #[cfg(test)]

@@ -1,4 +1,4 @@
-//! Lines at moments, and what the bytes of a journal tell.
+//! Log lines with their moments, and the events that a journal's bytes report.
 
 use lra_logs::{
     Chronicle, Event, Format, Level, LevelFilter, Logbook, Port, level_named, line_of, time_text,
@@ -19,7 +19,7 @@ const MOMENTS: &str = "0 1970-01-01T00:00:00.000Z
 253402300799999 9999-12-31T23:59:59.999Z
 253402300800000 253402300800000";
 
-/// The lines of events in words, behind their priorities.
+/// Lines of events in words, after their priorities.
 const WORDS: &str = "<6>T info serving journals=2 workers=4
 <6>T info ended
 <7>T debug action started journal=00001a0c1f8b2d4 action=12
@@ -51,7 +51,7 @@ const WORDS: &str = "<6>T info serving journals=2 workers=4
 <4>T warn member silent journal=00001a0c1f8b2d4 member=3 times=10 outcome=\"the request was not sent\"
 <4>T warn a name\\x1b[31m with \\x0a and \\\\ in it";
 
-/// The same in JSON.
+/// Lines of the same events in JSON.
 const OBJECTS: &str = r#"{"journals":2,"level":"info","message":"serving","time":"T","workers":4}
 {"level":"info","message":"ended","time":"T"}
 {"action":12,"journal":"00001a0c1f8b2d4","level":"debug","message":"action started","time":"T"}
@@ -83,7 +83,7 @@ const OBJECTS: &str = r#"{"journals":2,"level":"info","message":"serving","time"
 {"journal":"00001a0c1f8b2d4","level":"warn","member":3,"message":"member silent","outcome":"the request was not sent","time":"T","times":10}
 {"level":"warn","message":"a name\u001b[31m with \n and \\ in it","time":"T"}"#;
 
-/// The lines that a journal's bytes tell, where nothing else is written to it.
+/// Lines of the events that a journal's bytes report.
 const TOLD: &str = "debug action started journal=000000000000007 action=1
 warn member silent journal=000000000000007 member=5 times=1
 warn member silent journal=000000000000007 member=6 times=1
@@ -92,7 +92,7 @@ warn member silent journal=000000000000007 member=5 times=1
 warn action ended journal=000000000000007 action=1 status=FailedToClose
 ";
 
-/// Returns what came of a callback, by the place of the line that tells it.
+/// Returns the reply to a callback, by the place of the line that reports it.
 fn reply_at(place: usize) -> Option<Reply> {
     match place {
         19 => Some(Reply::NotAllowed),
@@ -109,7 +109,7 @@ fn reply_at(place: usize) -> Option<Reply> {
     }
 }
 
-/// The event of a line, by its place.
+/// Returns the event of a line, by its place.
 fn event_at(journal: Instance, place: usize) -> Option<Event> {
     let (action, member, workers) = (12, 3, 4);
     let status = if place == 3 {
@@ -158,7 +158,7 @@ fn event_at(journal: Instance, place: usize) -> Option<Event> {
     }
 }
 
-/// The line at a place, with its time as `T`.
+/// Returns the line at a place, with its time as `T`.
 fn line_at(alloc: Global, format: Format, place: usize) -> Option<String> {
     let journal = Instance::new(0x1a0c1f8b2d4)?;
     let moment = 1_795_700_061_250;
@@ -174,7 +174,7 @@ fn line_at(alloc: Global, format: Format, place: usize) -> Option<String> {
         .ok()
 }
 
-/// Returns whether the line at a place is that.
+/// Returns whether the line at a place is the wanted one.
 fn is_line(alloc: Global, format: Format, place: usize, want: &str) -> bool {
     match line_at(alloc, format, place) {
         Some(line) => line.as_str().strip_suffix("\n") == Some(want),
@@ -182,7 +182,7 @@ fn is_line(alloc: Global, format: Format, place: usize, want: &str) -> bool {
     }
 }
 
-/// Returns whether a moment is spelled so.
+/// Returns whether a moment is spelled as its row says.
 fn is_spelled(alloc: Global, row: &str) -> bool {
     let Some((moment, want)) = row.split_once(' ') else {
         return false;
@@ -211,8 +211,8 @@ fn each_event_has_its_line(rt: HostRuntime) {
     assert!(rt; level_named(b"trace").is_none());
 }
 
-/// A journal in which member 5 is silent ten times in a row, answers, and is silent once more, and member 6 is silent
-/// once.
+/// Returns a journal in which member 5 is silent ten times in a row, answers, and is silent once more. Member 6 is
+/// silent once.
 fn journal_text(alloc: Global) -> Option<String> {
     let mut text = String::from_str(
         alloc,
@@ -234,8 +234,8 @@ fn journal_text(alloc: Global) -> Option<String> {
     Some(text)
 }
 
-/// Returns what is told of a journal's bytes in pieces of that size, but for so many of the last, as lines without
-/// their moments.
+/// Returns the lines of the events that a journal's bytes report, without their moments. The bytes are read in pieces
+/// of this size, and the last `less` are left out.
 fn told_of(alloc: Global, size: usize, less: usize) -> Option<String> {
     if size == 0 {
         return None;
@@ -256,7 +256,7 @@ fn told_of(alloc: Global, size: usize, less: usize) -> Option<String> {
     Some(told)
 }
 
-/// Returns whether just that is told.
+/// Returns whether these are the lines of the reported events.
 fn is_told(alloc: Global, size: usize, less: usize, want: &str) -> bool {
     match told_of(alloc, size, less) {
         Some(told) => told.as_str() == want,
@@ -269,14 +269,14 @@ fn what_is_written_is_told(rt: HostRuntime) {
     for size in [1, 7, 4096] {
         assert!(rt; is_told(rt.alloc(), size, 0, TOLD));
     }
-    // All but the last line feed.
+    // All bytes but the last line feed.
     if let Some((front, _)) = TOLD.split_once("warn action ended") {
         assert!(rt; is_told(rt.alloc(), 100, 1, front));
     }
 }
 
-/// Counts the events that a journal's bytes tell, and those of its lines that weren't read for want of memory. Returns
-/// none where there was none for its text.
+/// Counts the events that a journal's bytes report, and the lines that weren't read for want of memory. Returns none if
+/// there is no memory for the journal's text.
 fn counted(alloc: Global) -> Option<(usize, u64)> {
     let text = journal_text(alloc)?;
     let mut chronicle = Chronicle::new(alloc, Instance::new(7)?);
@@ -287,7 +287,8 @@ fn counted(alloc: Global) -> Option<(usize, u64)> {
     Some((events.len(), chronicle.lost()))
 }
 
-/// Returns whether nothing was lost and all is told, or less was told and what was lost is counted.
+/// Returns whether no line was lost and all 6 events were reported, or lines were lost and at most 6 events were
+/// reported.
 fn is_counted(events: usize, lost: u64) -> bool {
     if lost == 0 { events == 6 } else { events < 7 }
 }
@@ -300,7 +301,7 @@ fn what_memory_is_refused_for_is_counted(rt: HostRuntime) {
     assert!(rt; is_counted(events, lost), "{events} {lost}");
 }
 
-/// Takes what threads may share.
+/// Accepts a value that threads may share.
 fn cross<T: Send + Sync>(_value: &T) {}
 
 #[test]

@@ -1,10 +1,10 @@
-//! Rules that are read and asked, and the words of faults.
+//! Rules that are read and applied, and the texts of faults.
 
 use lra_rules::{Rule, Rules};
 use std::alloc::Global;
 use std::net::SocketAddr;
 
-/// A rule, a host and port, the address that they come to, and whether that is let.
+/// A rule, a host and port, the address that they resolve to, and whether the rule allows that.
 const ROWS: &str = r"* pay.test:80 10.0.0.1:80 true
 * pay.test:80 127.0.0.1:80 false
 * pay.test:80 [::ffff:169.254.169.254]:80 false
@@ -27,7 +27,7 @@ const FAULTS: &str = r"10/8 no host, address or network
 *.test no host, address or network
 pay.test:65536 no port";
 
-/// Returns what stands before the first space, and behind it.
+/// Returns the text before the first space and the text after it.
 fn cut(text: &str) -> (&str, &str) {
     match text.split_once(' ') {
         Some(parts) => parts,
@@ -35,7 +35,7 @@ fn cut(text: &str) -> (&str, &str) {
     }
 }
 
-/// Returns whether one rule lets a host and port at an address.
+/// Returns whether one rule allows a host and port at an address.
 fn is_let(alloc: Global, rule: &str, socket: &str, to: &str) -> Option<bool> {
     let to = to.parse::<SocketAddr>().ok()?;
     let mut rules = Vec::new(alloc);
@@ -46,7 +46,7 @@ fn is_let(alloc: Global, rule: &str, socket: &str, to: &str) -> Option<bool> {
     Some(told)
 }
 
-/// Returns whether that is what a row tells.
+/// Returns whether the rule of a row allows what the row says.
 fn is_told(alloc: Global, row: &str) -> bool {
     let (rule, rest) = cut(row);
     let (socket, rest) = cut(rest);
@@ -61,7 +61,7 @@ fn rules_let_what_they_are_for(rt: HostRuntime) {
     }
 }
 
-/// Returns whether a text is no rule for the reason that a row tells.
+/// Returns whether a text is no rule, for the reason of its row.
 fn is_no_rule(alloc: Global, row: &str) -> bool {
     let (text, why) = cut(row);
     match Rule::read(alloc, text) {

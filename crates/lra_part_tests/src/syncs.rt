@@ -1,14 +1,14 @@
-//! Tests of what is taken down of syncs.
+//! Tests of the record of syncs.
 
 use lra_storage::{Syncs, Timed, begin, end};
 use std::alloc::Global;
 use std::sync::Arc;
 
-/// Syncs that keep so many writes.
+/// Number of writes that each sync makes durable.
 const KEPT: [u64; 6] = [0, 1, 0, 2, 5, 1_001];
 
-/// The syncs that are taken down, as how many of them kept up to 1, 2, 5, 1,000 and more writes, and how many writes
-/// that were.
+/// Records syncs. Returns how many of them made up to 1, 2, 5, 1,000 and more writes durable, and the number of these
+/// writes.
 fn taken_down<R: Timed>(rt: &R, alloc: Global) -> Option<[u64; 6]> {
     let syncs = Arc::new(alloc, Syncs::new(alloc, rt.stopwatch()).ok()?).ok();
     for writes in &KEPT {

@@ -1,10 +1,10 @@
-//! The answers of a coordinator, taken down.
+//! Answers of a coordinator, written as text.
 
 use lra_commands::Known;
 use lra_core::{Refusal, Told};
 use std::io::Write;
 
-/// Takes down what a command was told, or why it was refused.
+/// Writes the answer to a command, or its refusal.
 pub fn put_answer(answer: Result<Told, Refusal>, text: &mut Vec<u8>) -> Option<()> {
     match answer {
         Ok(told) => writeln!(text, "{told:?}").ok(),
@@ -12,7 +12,7 @@ pub fn put_answer(answer: Result<Told, Refusal>, text: &mut Vec<u8>) -> Option<(
     }
 }
 
-/// Takes down when something is due first.
+/// Writes the first moment at which something is due.
 pub fn put_next(next: Option<u64>, text: &mut Vec<u8>) -> Option<()> {
     match next {
         Some(moment) => writeln!(text, "at {moment}").ok(),
@@ -20,7 +20,7 @@ pub fn put_next(next: Option<u64>, text: &mut Vec<u8>) -> Option<()> {
     }
 }
 
-/// Takes down what a query was told.
+/// Writes the answer to a query, or its refusal.
 pub fn put_known(known: Result<Known, Refusal>, text: &mut Vec<u8>) -> Option<()> {
     match known {
         Ok(known) => writeln!(text, "{known:?}").ok(),

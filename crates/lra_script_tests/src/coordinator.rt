@@ -1,7 +1,7 @@
-//! Scripts of commands given to a coordinator, and journals that it is opened from.
+//! Scripts of commands given to a coordinator, and journals that a coordinator is opened from.
 //!
-//! Each script is as well run with one allocation failing in turn: a command to which memory is refused changes
-//! nothing, and has the script's answer when it is given again.
+//! Each script is also run with one allocation failing in turn. A command that is refused memory changes nothing, and
+//! has the script's answer when it is given again.
 
 ghost use Rattle.std.specs.Prelude.{◌≡◌, ◌<◌, ◌^◌, IfSome, true};
 ghost use Rattle.lra_commands.specs.Terms.{AreKeepable};
@@ -26,7 +26,7 @@ use std::str::from_utf8;
 
 const BASE: &str = "http://127.0.0.1:8080/";
 
-/// Returns what the URIs begin with.
+/// Returns the base of the URIs. If memory is refused the second try has it.
 pub fn base(alloc: Global) -> Option<Address>
     ensures { IfSome result (λ base. is_base base ≡ true) }
 {
@@ -45,7 +45,8 @@ fn coordinator(alloc: Global, limits: Limits) -> Option<Coordinator>
     Some(Coordinator::new(alloc, instance, base, limits))
 }
 
-/// Returns what comes of a script at a coordinator: nothing, where there is none, or it isn't of that version.
+/// Plays a script at a coordinator and returns the text. It is empty if there is no coordinator, or it isn't of that
+/// version.
 fn come(alloc: Global, place: Option<Coordinator>, version: Version, script: &str) -> Vec<u8> {
     let Some(mut coordinator) = place else {
         return Vec::new(alloc);
@@ -58,7 +59,7 @@ fn come(alloc: Global, place: Option<Coordinator>, version: Version, script: &st
     text
 }
 
-/// Returns what comes of a script at a coordinator with the usual limits.
+/// Plays a script at a coordinator with the usual limits, and returns the text.
 fn come_usually(alloc: Global, script: &str) -> Vec<u8> {
     let place = coordinator(alloc, Limits::usual());
     come(alloc, place, Version::Two, script)
@@ -71,12 +72,12 @@ fn scripts_come_to_what_they_say(rt: HostRuntime) {
     }
 }
 
-/// A small number, and 0 for any other text.
+/// Parses a small number. Returns 0 for any other text.
 pub fn small(text: &str) -> u16 {
     text.parse().unwrap_or(0)
 }
 
-/// Limits of a line: clerks, actions, members, entries and depth.
+/// Parses the limits of a line: clerks, actions, members, entries and depth.
 fn limits(line: &str) -> Limits
     ensures { AreKeepable result }
 {
@@ -94,7 +95,7 @@ fn limits(line: &str) -> Limits
     }
 }
 
-/// Returns what comes of a script at a coordinator with the limits of a line.
+/// Plays a script at a coordinator with the limits of a line, and returns the text.
 fn come_within(alloc: Global, line: &str, script: &str) -> Vec<u8> {
     let place = coordinator(alloc, limits(line));
     come(alloc, place, Version::Two, script)
@@ -108,7 +109,7 @@ fn limits_are_kept(rt: HostRuntime) {
     }
 }
 
-/// Starts of 64 actions, each nested in the one before.
+/// Writes the starts of 63 actions, each nested in the one before.
 fn put_starts(script: &mut Vec<u8>) -> io::Result<()> {
     for parent in 1..64u64 {
         let action = parent + 1;
@@ -120,7 +121,7 @@ fn put_starts(script: &mut Vec<u8>) -> io::Result<()> {
     Ok(())
 }
 
-/// Writes what a cancel of the outermost of them appends.
+/// Writes the lines that a cancel of the outermost action appends.
 fn put_ends(script: &mut Vec<u8>) -> io::Result<()> {
     for action in 2..65 {
         writeln!(script, "+ 1 1 cancel {action} parent")?;
@@ -132,7 +133,7 @@ fn put_ends(script: &mut Vec<u8>) -> io::Result<()> {
     Ok(())
 }
 
-/// 64 actions, each nested in the one before, and what comes of a cancel of the outermost.
+/// Writes a script that starts 64 actions, each nested in the one before, and cancels the outermost.
 fn put_nest(script: &mut Vec<u8>) -> io::Result<()> {
     script.extend_from_slice(NEST_BEGINS)?;
     put_starts(script)?;
@@ -151,7 +152,7 @@ const NEST_IS_CANCELLED: &[u8] =
 const NEST_ENDS: &[u8] =
     b"audit 2 -> sound 193 entries 64 actions 0 unended 0 closed 64 cancelled\n";
 
-/// A script of a nest. Nothing, where memory is refused.
+/// Returns the script of a nest. It is empty if memory is refused.
 fn nest(alloc: Global) -> Vec<u8> {
     let mut script = Vec::new(alloc);
     if put_nest(&mut script).is_err() {
@@ -168,7 +169,7 @@ fn a_nest_is_cancelled_at_once(rt: HostRuntime) {
     drop(script);
 }
 
-/// A coordinator that goes on from a journal, with so many entries at most.
+/// Opens a coordinator from a journal, with this many entries at most.
 fn open_once(alloc: Global, journal: &str, entries: u32) -> Result<Coordinator, OpenFault> {
     let Some(base) = base(alloc) else {
         return Err(OpenFault::Memory);
@@ -183,7 +184,7 @@ fn open_once(alloc: Global, journal: &str, entries: u32) -> Result<Coordinator, 
     Coordinator::from_journal(alloc, version, instance, base, limits, read)
 }
 
-/// The same, once more where memory was refused.
+/// Opens a coordinator from a journal, and tries again if memory was refused.
 fn open(alloc: Global, journal: &str, entries: u32) -> Result<Coordinator, OpenFault> {
     match open_once(alloc, journal, entries) {
         Err(OpenFault::Memory) => open_once(alloc, journal, entries),
@@ -191,7 +192,7 @@ fn open(alloc: Global, journal: &str, entries: u32) -> Result<Coordinator, OpenF
     }
 }
 
-/// Returns whether a fault is this: a line and a rule, or too many entries.
+/// Returns whether a fault is the wanted one: a line and a rule, or "Full".
 pub fn is_so(fault: OpenFault, wanted: &str) -> bool {
     match fault {
         OpenFault::Unsound { line, rule } => {
@@ -202,7 +203,7 @@ pub fn is_so(fault: OpenFault, wanted: &str) -> bool {
     }
 }
 
-/// Returns whether a journal isn't opened for this.
+/// Returns whether the opening of a journal has the wanted fault.
 fn is_refused(alloc: Global, journal: &str, entries: u32, wanted: &str) -> bool {
     match open(alloc, journal, entries) {
         Ok(coordinator) => {
@@ -227,7 +228,7 @@ fn journals_are_opened(rt: HostRuntime) {
     }
 }
 
-/// Returns what comes of a script at a coordinator that goes on from a journal of version 1.
+/// Plays a script at a coordinator that goes on from a journal of version 1, and returns the text.
 fn come_later(alloc: Global, journal: &str, script: &str) -> Vec<u8> {
     let place = open(alloc, journal, 100).ok();
     come(alloc, place, Version::One, script)
@@ -239,15 +240,15 @@ fn what_a_torn_block_lacks_is_added(rt: HostRuntime) {
     assert_came(&rt, come_later(rt.alloc(), journal, script), script);
 }
 
-/// Spends the errand of a command, where there is one.
+/// Discards the errand of a command, if there is one.
 fn spend(errand: Option<Errand>) {
     if let Some(errand) = errand {
         errand.discard();
     }
 }
 
-/// Prepares the close of action 1, and commits it if that is wanted: whether what is to be written is this, or nothing
-/// is.
+/// Prepares the close of action 1, and commits it if `commits` is set. Returns a word for the prepared block, if there
+/// is one.
 fn close(coordinator: &mut Coordinator, commits: bool) -> &'static str {
     match coordinator.prepare(1, 5, &Command::Close { action: 1 }) {
         Err(_) => "refused",
@@ -270,8 +271,8 @@ fn has_status(coordinator: &Coordinator, status: ActionStatus) -> bool {
     coordinator.status(1, 1) == Ok(Told::ActionIs(status))
 }
 
-/// Starts an action, prepares its close, and then commits it. Whether it was to be written both times, whether it is
-/// done, and whether nothing more is to be written.
+/// Starts an action, prepares its close, and then commits it. Returns whether it was started, whether each close
+/// prepared the wanted block, whether the action is closed then, and whether a further close writes nothing.
 fn close_once(coordinator: &mut Coordinator) -> [bool; 5] {
     let is_started = coordinator.enrol(0).is_ok() && coordinator.start(1, 0, None, 0).is_ok();
     let is_prepared = has_status(coordinator, ActionStatus::Active)
@@ -283,7 +284,7 @@ fn close_once(coordinator: &mut Coordinator) -> [bool; 5] {
     [is_started, is_prepared, is_committed, is_closed, is_over]
 }
 
-/// The same at a new coordinator.
+/// Runs `close_once` at a new coordinator.
 fn close_anew(alloc: Global) -> [bool; 5] {
     let Some(mut coordinator) = coordinator(alloc, Limits::usual()) else {
         return [false; 5];

@@ -1,13 +1,13 @@
-//! Errands that are held until what came of them is recorded.
+//! Errands that are held until their outcomes are recorded.
 
 use lra_core::Errand;
 use std::alloc::{AllocError, Global};
 use std::io::{self, Write};
 
-/// The most errands that a script holds.
+/// Most errands that a script holds.
 const ASKS: usize = 16;
 
-/// An errand that is held.
+/// Errand that is held.
 struct Held {
     ask: u64,
     errand: Option<Errand>,
@@ -30,7 +30,7 @@ impl Held {
         }
     }
 
-    /// Takes down what it is.
+    /// Writes the ask, the member, the kind and the address.
     fn put(&self, text: &mut Vec<u8>) -> io::Result<()> {
         if let Some(errand) = &self.errand {
             let (ask, member) = (errand.ask(), errand.member());
@@ -40,7 +40,7 @@ impl Held {
         Ok(())
     }
 
-    /// Takes down what it has beside what was told of it when it was asked.
+    /// Writes the parts of the errand that `put` doesn't.
     fn show(&self, text: &mut Vec<u8>) -> io::Result<()> {
         if let Some(errand) = &self.errand {
             let (action, direction) = (errand.action(), errand.direction().name());
@@ -53,7 +53,7 @@ impl Held {
     }
 }
 
-/// All that are held.
+/// All errands that are held.
 #[derive(Drop)]
 pub struct Errands {
     held: Vec<Held>,
@@ -66,12 +66,12 @@ impl Errands {
         }
     }
 
-    /// Makes room for those of a script, so that holding them takes no memory.
+    /// Reserves room for the errands of a script, so that holding them takes no memory.
     pub fn make_room(&mut self) -> Result<(), AllocError> {
         self.held.reserve(ASKS)
     }
 
-    /// Holds an errand, and takes down what it is.
+    /// Holds an errand, and writes what it is.
     pub fn hold(&mut self, errand: Errand, text: &mut Vec<u8>) -> Option<()> {
         let held = Held::new(errand);
         let done = held.put(text);
@@ -84,7 +84,7 @@ impl Errands {
         self.held.push(Held::new(errand)).ok()
     }
 
-    /// Takes the errand of an ask, where it is held.
+    /// Removes the errand of an ask, and returns it if it is held.
     pub fn take(&mut self, ask: u64) -> Option<Errand> {
         for held in &mut self.held {
             if held.ask == ask && held.errand.is_some() {
@@ -94,14 +94,14 @@ impl Errands {
         None
     }
 
-    /// Lets the errand of an ask go.
+    /// Discards the errand of an ask.
     pub fn discard(&mut self, ask: u64) -> Option<()> {
         let errand = self.take(ask)?;
         errand.discard();
         Some(())
     }
 
-    /// Takes down what an errand has beside what was told of it when it was asked.
+    /// Writes the parts of an errand that weren't written when it was asked.
     pub fn show(&self, ask: u64, text: &mut Vec<u8>) -> Option<()> {
         for held in &self.held {
             if held.ask == ask {

@@ -1,4 +1,4 @@
-//! Tests: scripts of commands and what comes of each, at a coordinator and at an office.
+//! Tests: scripts of commands with their answers and lines, at a coordinator and at an office.
 #![tactic(auto)]
 
 #[cfg(test)]

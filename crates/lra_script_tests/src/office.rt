@@ -1,6 +1,6 @@
 //! The scripts of a coordinator, given to an office by a clerk.
 //!
-//! Each is as well run with one allocation failing in turn: a command to which memory is refused changes nothing, and
+//! Each script is also run with one allocation failing in turn. A command that is refused memory changes nothing, and
 //! has the script's answer when it is given again.
 
 ghost use Rattle.std.specs.Prelude.{◌≡◌, IfSome};
@@ -24,16 +24,16 @@ use std::io::{self, Write};
 use std::process::Abort;
 use std::sync::{Mutex, Wait};
 
-/// The most bytes that come of a script.
+/// Most bytes of a script's text.
 const ROOM: usize = 8_192;
 
 const NO_MEMORY: OfficeRefusal = OfficeRefusal::Refused(Refusal::Memory);
 
-/// The state that is to stay as it is where memory is refused: how long the journal is, to which text is added alone,
-/// and the statuses of the first actions and members.
+/// State that refused memory mustn't change: the length of the journal, which only grows, and the statuses of the first
+/// actions and members.
 type Seen = (usize, [Option<Told>; 4]);
 
-/// A writer in memory that is looked at while an office has it.
+/// Writer in memory whose bytes can be read while an office has it.
 #[derive(Drop)]
 struct Shared<'a, R> {
     rt: &'a R,
@@ -51,30 +51,30 @@ impl<R: Wait> Write for Shared<'_, R> {
     }
 }
 
-/// A clerk that gives the commands of a script to its office.
+/// Clerk that gives the commands of a script to its office.
 #[derive(Drop)]
 struct Player<'a, V: Serving, R> {
     rt: &'a R,
     alloc: Global,
     office: OfficeOf<V>,
     clerk: Clerk<V>,
-    /// The text that the office's writer has taken.
+    /// Text that the office's writer has accepted.
     journal: &'a Mutex<Vec<u8>>,
     held: Errands,
-    /// The commands, each with its answer.
+    /// Commands, each with its answer.
     text: &'a mut Vec<u8>,
     ghost there: { IsClerkOf office.lock V.covers clerk },
 }
 
 impl<V: Serving, R: Wait> Player<'_, V, R> {
-    /// Makes room for what comes of a script, so that taking it down takes no memory.
+    /// Reserves room for the text of a script, so that writing it takes no memory.
     fn make_room(&mut self) -> Result<(), AllocError> {
         self.held.make_room()?;
         self.text.reserve(ROOM)
     }
 
-    /// Gives the commands of a script, up to one that is none, or one that changed something when it was refused
-    /// memory.
+    /// Gives the commands of a script. It stops at a line that is no command, and at one that changed something when it
+    /// was refused memory.
     fn play(&mut self, script: &str) -> Option<()> {
         if self.make_room().is_err() {
             self.make_room().ok()?;
@@ -87,7 +87,7 @@ impl<V: Serving, R: Wait> Player<'_, V, R> {
         Some(())
     }
 
-    /// Gives the command of a line, and takes down what comes of it.
+    /// Gives the command of a line, and writes its answer.
     fn give_line(&mut self, line: &str) -> Option<()> {
         let (command, _) = line.split_once(" -> ")?;
         write!(self.text, "{command} -> ").ok()?;
@@ -132,7 +132,7 @@ impl<V: Serving, R: Wait> Player<'_, V, R> {
         self.record(moment, ask, outcome)
     }
 
-    /// Returns what there is now that a refusal is to keep.
+    /// Returns the state that refused memory mustn't change.
     fn seen(&mut self) -> Seen {
         let statuses = [
             self.office.status(self.rt, &mut self.clerk, 1).ok(),
@@ -148,7 +148,7 @@ impl<V: Serving, R: Wait> Player<'_, V, R> {
         self.seen() == seen
     }
 
-    /// Joins a member.
+    /// Lets a member join.
     fn join(&mut self, moment: u64, action: u64, addresses: &str) -> Option<()> {
         let uris = uris(self.alloc, addresses)?;
         let order = Order::Join {
@@ -160,7 +160,7 @@ impl<V: Serving, R: Wait> Player<'_, V, R> {
         done
     }
 
-    /// Gives an order, twice where memory was refused.
+    /// Gives an order, twice if memory was refused.
     fn order(&mut self, moment: u64, order: &Order<'_>) -> Option<()> {
         let seen = self.seen();
         let mut answer = named(self.rt, &self.office, &mut self.clerk, moment, order);
@@ -173,7 +173,7 @@ impl<V: Serving, R: Wait> Player<'_, V, R> {
         put(answer, self.text)
     }
 
-    /// Asks what writes nothing, and takes down what is told.
+    /// Makes a query, and writes its answer.
     fn query(&mut self, query: Query) -> Option<()> {
         match self.office.query(self.rt, &mut self.clerk, query) {
             Ok(known) => put_known(Ok(known), self.text),
@@ -181,7 +181,7 @@ impl<V: Serving, R: Wait> Player<'_, V, R> {
         }
     }
 
-    /// Asks when something is due first, and takes it down.
+    /// Asks when something is due first, and writes the answer.
     fn next_moment(&mut self) -> Option<()> {
         match self.office.next_moment(self.rt, &mut self.clerk) {
             Ok(next) => put_next(next, self.text),
@@ -189,7 +189,7 @@ impl<V: Serving, R: Wait> Player<'_, V, R> {
         }
     }
 
-    /// Asks, twice where memory was refused.
+    /// Asks for the next errand, twice if memory was refused.
     fn asked(&mut self, moment: u64) -> Result<Option<Errand>, OfficeRefusal> {
         let seen = self.seen();
         match self.office.next_ask(self.rt, &mut self.clerk, moment) {
@@ -200,7 +200,7 @@ impl<V: Serving, R: Wait> Player<'_, V, R> {
         }
     }
 
-    /// Asks, and holds the errand.
+    /// Asks for the next errand, and holds it.
     fn ask(&mut self, moment: u64) -> Option<()> {
         match self.asked(moment) {
             Err(refusal) => put(Err(refusal), self.text),
@@ -214,7 +214,7 @@ impl<V: Serving, R: Wait> Player<'_, V, R> {
         writeln!(self.text, "discarded").ok()
     }
 
-    /// Records what came of an ask, twice where memory was refused. An errand that is handed back stays held.
+    /// Records the outcome of an ask, twice if memory was refused. An errand that is handed back stays held.
     fn record(&mut self, moment: u64, ask: u64, outcome: Outcome) -> Option<()> {
         let seen = self.seen();
         let mut answer = self.record_once(moment, ask, outcome)?;
@@ -251,7 +251,7 @@ impl<V: Serving, R: Wait> Player<'_, V, R> {
     }
 }
 
-/// Takes down an answer. Nothing, where the lock is worn.
+/// Writes an answer. Returns none if the lock is worn.
 fn put(answer: Result<Told, OfficeRefusal>, text: &mut Vec<u8>) -> Option<()> {
     match answer {
         Ok(told) => put_answer(Ok(told), text),
@@ -260,7 +260,7 @@ fn put(answer: Result<Told, OfficeRefusal>, text: &mut Vec<u8>) -> Option<()> {
     }
 }
 
-/// Gives an order by the call of its name.
+/// Gives an order by the method of its name.
 fn named<V: Serving, R: Wait>(
     rt: &R,
     office: &OfficeOf<V>,
@@ -286,7 +286,7 @@ fn named<V: Serving, R: Wait>(
     }
 }
 
-/// Returns whether a line of a script is a command that the clerk gives, discards an errand, or only asks.
+/// Returns whether a line of a script is a command that the clerk gives, or discards an errand, or is a query.
 fn is_given(line: &str) -> bool {
     line.starts_with("1 ")
         || line.starts_with("discard ")
@@ -294,8 +294,8 @@ fn is_given(line: &str) -> bool {
         || asks(parted(line, " ").0)
 }
 
-/// Adds what is to come of a script: the commands that are given, with their answers; and the journal, which is the
-/// lines that they append, after a header.
+/// Writes the expected texts of a script: the commands that are given, with their answers; and the journal, which is a
+/// header and the lines that they append.
 fn put_wanted(
     script: &str,
     answers: &mut Vec<u8>,
@@ -315,7 +315,7 @@ fn put_wanted(
     Ok(())
 }
 
-/// Room for what comes of a script, so that taking it down takes no memory.
+/// Returns an empty text with room for a script's text, so that writing it takes no memory.
 fn room(alloc: Global) -> Vec<u8> {
     let mut room = Vec::new(alloc);
     if room.reserve(ROOM).is_err() {
@@ -324,7 +324,7 @@ fn room(alloc: Global) -> Vec<u8> {
     room
 }
 
-/// Enrols the first clerk of an office, the second time where memory was refused.
+/// Enrols the first clerk of an office, twice if memory was refused.
 fn enrolled<V: Serving, R: Wait>(
     rt: &R,
     office: &OfficeOf<V>,
@@ -342,7 +342,7 @@ fn enrolled<V: Serving, R: Wait>(
     }
 }
 
-/// An office and its clerk after a script that the clerk gives.
+/// Plays a script by a clerk, and returns its office and the clerk.
 fn given<V: Serving, R: Wait>(mut player: Player<'_, V, R>, script: &str) -> (OfficeOf<V>, Clerk<V>)
     ensures { IsClerkOf result.0.lock V.covers result.1 }
 {
@@ -360,7 +360,7 @@ fn given<V: Serving, R: Wait>(mut player: Player<'_, V, R>, script: &str) -> (Of
     (office, clerk)
 }
 
-/// Shuts an office by its clerk, and lets go of what is left of it.
+/// Shuts an office by its clerk, and drops what is left of it.
 fn shut<W: Write + Drop>(office: Office<W>, clerk: Clerk<Desk<W>>)
     requires { IsClerkOf office.lock has_text clerk }
 {
@@ -376,14 +376,14 @@ fn shut<W: Write + Drop>(office: Office<W>, clerk: Clerk<Desk<W>>)
     }
 }
 
-/// The moment of a script's first line, which enrols its clerk.
+/// Returns the moment of a script's first line, which enrols its clerk.
 fn enrolment(script: &str) -> Option<u64> {
     let mut words = Words { left: script };
     words.next();
     words.number()
 }
 
-/// Plays a script at an office, whose first clerk enrols at this moment. The answers to its commands are added to a
+/// Plays a script at an office, whose first clerk enrols at this moment. Appends the commands and their answers to a
 /// text.
 fn play_at<W: Write + Drop, R: Wait>(
     rt: &R,
@@ -416,7 +416,7 @@ fn play_at<W: Write + Drop, R: Wait>(
     }
 }
 
-/// Plays a script at a new office: whether one could be made.
+/// Plays a script at a new office. Returns none if no office could be made.
 fn play_once<R: Wait>(
     rt: &R,
     alloc: Global,
@@ -440,7 +440,8 @@ fn play_once<R: Wait>(
     }
 }
 
-/// The same, with memory for the office the second time. What the writer took.
+/// Plays a script at a new office, and returns the bytes that its writer has accepted. It tries again if no office
+/// could be made.
 fn play<R: Wait>(rt: &R, alloc: Global, script: &str, text: &mut Vec<u8>) -> Vec<u8> {
     let journal = Mutex::new(room(alloc));
     if play_once(rt, alloc, script, &journal, text).is_none() {
@@ -450,7 +451,7 @@ fn play<R: Wait>(rt: &R, alloc: Global, script: &str, text: &mut Vec<u8>) -> Vec
     journal.into_inner()
 }
 
-/// Asserts that what comes of a script is what it says.
+/// Asserts that a script has the answers and the lines that it says.
 fn assert_script<R: Abort + Wait>(rt: &R, alloc: Global, script: &str) {
     let mut text = room(alloc);
     let taken = play(rt, alloc, script, &mut text);
@@ -468,7 +469,7 @@ fn scripts_come_to_what_they_say(rt: HostRuntime) {
     }
 }
 
-/// A journal that an office goes on from at a moment, and what is written then.
+/// Journal that an office goes on from at a moment, and the text that is written then.
 #[derive(Clone, Copy)]
 struct Reopening<'a> {
     moment: u64,
@@ -476,7 +477,7 @@ struct Reopening<'a> {
     written: &'a str,
 }
 
-/// Returns what a renewal is refused by, in a word.
+/// Returns a word for a renewal's refusal.
 fn refusal_word(renewed: Result<Told, OfficeRefusal>) -> &'static str {
     match renewed {
         Ok(_) => "not refused",
@@ -485,7 +486,7 @@ fn refusal_word(renewed: Result<Told, OfficeRefusal>) -> &'static str {
     }
 }
 
-/// Returns what a renewal is refused by at the office of a journal: nothing, where memory was refused.
+/// Reopens an office and returns a word for the refusal of a renewal there, or none if memory was refused.
 fn goes_on<R: Wait>(
     rt: &R,
     alloc: Global,
@@ -516,7 +517,7 @@ fn goes_on<R: Wait>(
     }
 }
 
-/// Takes back what was written where memory was refused: whether that is nothing, or all.
+/// Removes the bytes that were written before memory was refused. Returns whether these were none, or all.
 fn take_back<R: Wait>(rt: &R, taken: &Mutex<Vec<u8>>, written: &str) -> bool {
     let mut before = taken.lock(rt);
     let is_part = !before.is_empty() && before.as_slice() != written.as_bytes();
@@ -525,8 +526,8 @@ fn take_back<R: Wait>(rt: &R, taken: &Mutex<Vec<u8>>, written: &str) -> bool {
     !is_part
 }
 
-/// Returns what a renewal is refused by, tried once more where memory was refused. Then nothing had been written, or
-/// all.
+/// Returns a word for the refusal of a renewal at a reopened office, and tries again if memory was refused. The first
+/// try may have written nothing, or all.
 fn goes_on_twice<R: Wait>(
     rt: &R,
     alloc: Global,
@@ -542,7 +543,7 @@ fn goes_on_twice<R: Wait>(
     goes_on(rt, alloc, row, taken).unwrap_or("memory is refused twice")
 }
 
-/// Asserts that what comes of a journal that is reopened is what its row says.
+/// Asserts that a journal that is reopened has the refusal and the text of its row.
 fn assert_reopened<R: Abort + Wait>(rt: &R, alloc: Global, row: Reopening<'_>, wanted: &str) {
     let taken = Mutex::new(room(alloc));
     let word = goes_on_twice(rt, alloc, row, &taken);
@@ -551,7 +552,7 @@ fn assert_reopened<R: Abort + Wait>(rt: &R, alloc: Global, row: Reopening<'_>, w
     assert_same(rt, taken.as_slice(), row.written.as_bytes());
 }
 
-/// The reopening of a row, and what the renewal is to be refused by.
+/// Parses a row: a reopening, and the word for the expected refusal of the renewal.
 fn reopened_by(row: &str) -> Option<(Reopening<'_>, &str)> {
     let (line, row) = parted(row, "\n");
     let (moment, wanted) = parted(line, " ");

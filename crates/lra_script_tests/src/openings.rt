@@ -8,10 +8,10 @@ use lra_core::{Command, CoordinatorOf, Counted, Limits, Memory, OpenFault, Openi
 use lra_ids::Base;
 use std::alloc::Global;
 
-/// The numbers of bytes that a piece has; of the last size there is one piece.
+/// Sizes of pieces, in bytes. In the last size a journal is one piece.
 const SIZES: [usize; 3] = [1, 7, 65_536];
 
-/// A journal that was cut off in a block: the line that has no end isn't read.
+/// Journal that was cut off in a block: its last line, which has no end, isn't read.
 const CUT: &str = "\
 lra-journal 1 7
 1 0 enrol
@@ -20,10 +20,10 @@ lra-journal 1 7
 1 2 close 1 client
 1 2 sk";
 
-/// The text that an enrolment there appends.
+/// Text that an enrolment there appends.
 const ADDED: &[u8] = b"2 9 enrol\n2 9 skip 1\n2 9 end 1 Closed\n";
 
-/// An opening that was fed these bytes in pieces of this size.
+/// Returns an opening that was fed these bytes in pieces of this size.
 fn fed(alloc: Global, bytes: &[u8], size: usize) -> Result<Opening, Memory> {
     let mut opening = Opening::new(alloc);
     let mut rest = bytes;
@@ -35,7 +35,7 @@ fn fed(alloc: Global, bytes: &[u8], size: usize) -> Result<Opening, Memory> {
     Ok(opening)
 }
 
-/// A coordinator that goes on from a journal, with so many entries at most.
+/// Opens a coordinator from a journal in pieces of this size, with this many entries at most.
 fn open_once(
     alloc: Global,
     journal: &str,
@@ -53,7 +53,7 @@ fn open_once(
     opening.finish(Base::of(base), limits)
 }
 
-/// The same, once more where memory was refused.
+/// Opens a coordinator from a journal in pieces of this size, and tries again if memory was refused.
 fn open(
     alloc: Global,
     journal: &str,
@@ -66,7 +66,7 @@ fn open(
     }
 }
 
-/// Returns whether a journal isn't opened for this.
+/// Returns whether the opening of a journal has the wanted fault.
 fn is_refused(alloc: Global, journal: &str, entries: u32, wanted: &str, size: usize) -> bool {
     match open(alloc, journal, entries, size) {
         Ok(coordinator) => {
@@ -93,7 +93,7 @@ fn journals_are_opened_in_pieces(rt: HostRuntime) {
     }
 }
 
-/// Returns what an enrolment would append; nothing where it is refused.
+/// Returns the text that an enrolment would append. It is empty if the enrolment is refused.
 fn enrolment(alloc: Global, coordinator: &mut CoordinatorOf<Counted>) -> Vec<u8> {
     let mut text = Vec::new(alloc);
     for _again in 0..2 {
@@ -106,8 +106,7 @@ fn enrolment(alloc: Global, coordinator: &mut CoordinatorOf<Counted>) -> Vec<u8>
     text
 }
 
-/// Returns what an enrolment would append to the journal that was cut off, where its other lines are fed in pieces of
-/// this size.
+/// Returns the text that an enrolment would append to the journal that was cut off, fed in pieces of this size.
 fn added(alloc: Global, size: usize) -> Vec<u8> {
     match open(alloc, CUT, 100, size) {
         Ok(mut coordinator) => {

@@ -1,7 +1,6 @@
-//! Scripts, each with what comes of it: a command and its answer, and then the lines that it appends. Scripts stand
-//! between `|`.
+//! Scripts: each command has its answer, and then the lines that it appends. `|` separates scripts.
 
-/// On a coordinator with the usual limits.
+/// Scripts for a coordinator with the usual limits.
 pub const SCRIPTS: &str = "\
 0 0 enrol -> Clerk(1)
 + 1 0 enrol
@@ -322,8 +321,8 @@ audit 2 -> sound 14 entries 2 actions 0 unended 1 closed 1 cancelled
 audit 1 -> unsound line 10 cause
 ";
 
-/// Where few clerks, actions, members and entries fit: how many of each, and how deep actions are nested, and what then
-/// comes of commands.
+/// Scripts for small limits. The first line has the limits: clerks, actions, members, entries, and the depth of nested
+/// actions.
 pub const LIMITED: &str = "\
 1 2 1 4 2
 0 0 enrol -> Clerk(1)
@@ -380,7 +379,7 @@ pub const LIMITED: &str = "\
 1 0 start * 0 -> refused Full(Actions)
 ";
 
-/// The number of entries that fit, what a journal opens as, and the journal.
+/// Number of entries that fit, the fault of the opening, and the journal.
 pub const OPENED: &str = "\
 100 5 ending
 lra-journal 1 7
@@ -409,7 +408,7 @@ lra-journal 2 7
 1 30 end 1 Closed
 ";
 
-/// A journal whose last block lacks its end, and what comes of commands once it is opened.
+/// Journal whose last block lacks its end, and a script for the coordinator that is opened from it.
 pub const TORN: [&str; 2] = [
     "\
 lra-journal 1 7
@@ -429,8 +428,8 @@ lra-journal 1 7
 ",
 ];
 
-/// Between `|`: a moment and what a renewal is then refused by, the journal that is reopened, and after `>` what is
-/// written of it.
+/// Between `|`: a moment and the refusal of a renewal then, the journal that is reopened, and after `>` the text that
+/// is written.
 pub const REOPENED: &str = "\
 9 OldJournal
 lra-journal 1 7

@@ -1,27 +1,27 @@
-//! The words of a script's line.
+//! Words of a script's line.
 
 use lra_commands::{Listing, Order, Query};
 use lra_model::{ActionStatus, Ending, Uris};
 use std::alloc::{AllocError, Global};
 
-/// The words of a line that are still to come.
+/// Words of a line that are still to be read.
 #[derive(Drop)]
 pub struct Words<'a> {
     pub left: &'a str,
 }
 
-/// Returns what stands before the first such sign, and behind it: all and nothing, where there is none.
+/// Splits a row at the first `sign`. Without one it returns the whole row and an empty text.
 pub fn parted<'a>(row: &'a str, sign: &str) -> (&'a str, &'a str) {
     row.split_once(sign).unwrap_or((row, ""))
 }
 
-/// Returns whether a line with such a first word only asks.
+/// Returns whether a line with this first word is a query.
 pub fn asks(first: &str) -> bool {
     first == "awaited" || first == "listed" || first == "counted"
 }
 
 impl<'a> Words<'a> {
-    /// The next word; nothing where none is left.
+    /// Returns the next word. It is empty if none is left.
     pub fn next(&mut self) -> &'a str {
         let (word, left) = parted(self.left, " ");
         self.left = left;
@@ -32,7 +32,7 @@ impl<'a> Words<'a> {
         self.next().parse().ok()
     }
 
-    /// A number, or none, for which `*` stands.
+    /// Reads a number, or none, for which `*` stands.
     fn optional(&mut self) -> Option<Option<u64>> {
         let word = self.next();
         if word == "*" {
@@ -41,7 +41,7 @@ impl<'a> Words<'a> {
         Some(Some(word.parse().ok()?))
     }
 
-    /// An address, or `*` for none.
+    /// Reads an address, or none, for which `*` stands.
     fn address(&mut self, alloc: Global) -> Result<Option<String>, AllocError> {
         let word = self.next();
         if word == "*" {
@@ -74,8 +74,8 @@ impl<'a> Words<'a> {
         Ok(())
     }
 
-    /// A query, from a place on, of a line with such a first word: of what an action waits for, of the next row of a
-    /// listing, or of how many it has.
+    /// Reads a query from a place on, whose line has this first word: what an action waits for, the next row of a
+    /// listing, or how many rows are left.
     pub fn query(&mut self, first: &str) -> Option<Query> {
         if first == "awaited" {
             let action = self.number()?;
@@ -90,7 +90,7 @@ impl<'a> Words<'a> {
         Some(Query::Row { of, place })
     }
 
-    /// Which rows are listed: the members of an action, those nested in it, or all actions of a status.
+    /// Reads which rows are listed: the members of an action, its nested actions, or all actions of a status.
     fn listing(&mut self) -> Option<Listing> {
         let kind = self.next();
         if kind == "actions" {
@@ -104,7 +104,7 @@ impl<'a> Words<'a> {
         Some(Listing::Members { action })
     }
 
-    /// An action's status, or any, for which `*` stands.
+    /// Reads an action's status, or any, for which `*` stands.
     fn status(&mut self) -> Option<Option<ActionStatus>> {
         let word = self.next();
         if word == "*" {
@@ -113,7 +113,7 @@ impl<'a> Words<'a> {
         Some(Some(ActionStatus::from_name(word.as_bytes())?))
     }
 
-    /// An order of any kind but that to join.
+    /// Reads an order of any kind but that to join.
     pub fn order(&mut self, verb: &str) -> Option<Order<'static>> {
         if verb == "tick" {
             return Some(Order::Tick);
@@ -146,7 +146,7 @@ impl<'a> Words<'a> {
     }
 }
 
-/// The addresses of a member, read again where memory was refused.
+/// Reads the addresses of a member, twice if memory was refused.
 pub fn uris(alloc: Global, addresses: &str) -> Option<Uris> {
     match (Words { left: addresses }).uris(alloc) {
         Err(_) => (Words { left: addresses }).uris(alloc).ok(),
@@ -154,7 +154,7 @@ pub fn uris(alloc: Global, addresses: &str) -> Option<Uris> {
     }
 }
 
-/// An order that names an action or a member alone.
+/// Returns an order that names only an action or a member.
 fn of_one(verb: &str, number: u64) -> Option<Order<'static>> {
     if verb == "close" {
         return Some(Order::Close { action: number });
@@ -168,7 +168,7 @@ fn of_one(verb: &str, number: u64) -> Option<Order<'static>> {
     (verb == "member").then_some(Order::MemberStatus { member: number })
 }
 
-/// An order to leave an action, or else to renew it.
+/// Returns an order to leave an action, or else to renew it.
 fn of_two(verb: &str, action: u64, number: u64) -> Order<'static> {
     if verb == "leave" {
         return Order::Leave {

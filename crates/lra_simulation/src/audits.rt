@@ -1,5 +1,4 @@
-//! The audits once nothing goes on any more: of each journal by the auditor, and of what clients and members saw beside
-//! it.
+//! Checks at the end of a run: the auditor audits each journal, and what clients and members saw is compared with it.
 
 use super::checks::{check_end, check_member, check_nested};
 use super::client::Client;
@@ -11,14 +10,14 @@ use lra_auditor::{Account, Auditor, ListedAction, Listing};
 use lra_model::MemberStatus;
 use std::alloc::Global;
 
-/// The clients and the members, with what they saw.
+/// Clients and members, with what they saw.
 #[derive(Clone, Copy)]
 pub struct Seen<'a> {
     pub clients: &'a [Client],
     pub members: &'a [Member],
 }
 
-/// Returns what the auditor lists of a journal, which has to be sound.
+/// Audits a journal, which has to be sound, and returns the auditor's listing of it.
 fn listing_of(alloc: Global, text: &[u8]) -> Result<Listing> {
     let mut auditor = Auditor::new(alloc);
     auditor.feed(text)?;
@@ -33,14 +32,15 @@ fn count_lines(text: &[u8]) -> usize {
     text.iter().filter(|&&byte| byte == b'\n').count()
 }
 
-/// The numbers of a journal's actions and members, each with a flag that is set once a client or member was told it.
+/// Flags for the numbers of a journal's actions and members: a flag is set once a client or a member was told its
+/// number.
 #[derive(Drop)]
 struct Owners {
     actions: Vec<bool>,
     members: Vec<bool>,
 }
 
-/// Nobody was told so many numbers, from 1 on.
+/// Returns this many flags, for the numbers from 1 on. None is set.
 fn nobody(alloc: Global, count: u64) -> Result<Vec<bool>> {
     let mut all = Vec::new(alloc);
     for _ in 0..count {
@@ -49,7 +49,7 @@ fn nobody(alloc: Global, count: u64) -> Result<Vec<bool>> {
     Ok(all)
 }
 
-/// Marks that a number was told; false where it isn't there or was told before.
+/// Sets a number's flag. Returns false if there is no such number or its flag was set before.
 fn is_told_once(all: &mut Vec<bool>, number: u64) -> bool {
     let Some(place) = number.checked_sub(1) else {
         return false;
@@ -71,7 +71,7 @@ impl Owners {
     }
 }
 
-/// Looks whether a member's answered join is in the journal, and its answered leave.
+/// Checks that a member's answered join is in the journal, and so is its answered leave.
 fn check_join(
     listing: &Listing,
     owners: &mut Owners,
@@ -98,7 +98,7 @@ fn check_join(
     Ok(())
 }
 
-/// The action of a number that a client was told.
+/// Returns the action whose number a client was told, and sets the number's flag.
 fn find(listing: &Listing, owners: &mut Owners, number: u64) -> Result<ListedAction> {
     ensure!(
         is_told_once(&mut owners.actions, number),
@@ -116,7 +116,7 @@ fn count_ends(ends: &mut Ends, listing: &Listing) {
     }
 }
 
-/// Counts what a sound journal has.
+/// Counts the bytes, entries, actions and members of a sound journal.
 fn count_journal(counts: &mut Counts, text: &[u8], listing: &Listing) {
     add(&mut counts.bytes, text.len());
     add(&mut counts.entries, count_lines(text).saturating_sub(1));
@@ -125,7 +125,7 @@ fn count_journal(counts: &mut Counts, text: &[u8], listing: &Listing) {
     count_ends(&mut counts.ends, listing);
 }
 
-/// Looks at what the members of a client saw.
+/// Checks what the members of a client saw.
 fn check_members(
     seen: Seen<'_>,
     counts: &mut Counts,
@@ -147,7 +147,7 @@ fn check_members(
     Ok(())
 }
 
-/// The action that a client's is nested in, and whether it is the one that the journal has.
+/// Checks that an action's parent in the journal is the one that its client asked for, and that their ends fit.
 fn check_parent(
     seen: Seen<'_>,
     listing: &Listing,
@@ -172,7 +172,7 @@ fn check_parent(
     }
 }
 
-/// Looks at what a client was told, and at its members.
+/// Checks what a client was told, and its members.
 fn check_client(
     seen: Seen<'_>,
     counts: &mut Counts,
@@ -194,7 +194,7 @@ fn check_client(
     check_members(seen, counts, listing, owners, client, action)
 }
 
-/// Looks at what the clients at these places were told.
+/// Checks what the clients at these places were told.
 fn check_clients(
     seen: Seen<'_>,
     counts: &mut Counts,
@@ -208,7 +208,7 @@ fn check_clients(
     Ok(())
 }
 
-/// Audits a site's journal, and looks at what its clients and their members saw.
+/// Audits a site's journal, and checks what its clients and their members saw.
 pub fn check_site(alloc: Global, seen: Seen<'_>, counts: &mut Counts, site: &Site) -> Result<()> {
     let listing = listing_of(alloc, site.text())?;
     count_journal(counts, site.text(), &listing);

@@ -1,4 +1,4 @@
-//! The events that are to happen, each at its moment; at one moment, the one that was put first comes first.
+//! Calendar of the events to come, ordered by their moments. Events of one moment are in the order of their insertion.
 
 use super::event::Event;
 use anyhow::Result;
@@ -7,11 +7,11 @@ use std::alloc::Global;
 use std::cmp::Reverse;
 use std::collections::BinaryHeap;
 
-/// When an event happens, and where it is kept until then.
+/// Moment of an event, and its place in the slab.
 #[derive(Clone, Copy, PartialEq, Eq, PartialOrd, Ord)]
 struct Due {
     moment: u64,
-    /// The number of events that were put before.
+    /// Number of events that were put before.
     turn: u64,
     place: usize,
 }
@@ -44,7 +44,7 @@ impl Calendar {
         Ok(())
     }
 
-    /// The first of the events, which is no longer kept, and its moment.
+    /// Removes the next event, and returns it with its moment.
     pub fn next(&mut self) -> Option<(u64, Event)> {
         let Reverse(due) = self.dues.pop()?;
         let event = self.events.try_remove(due.place)?;

@@ -1,4 +1,4 @@
-//! Whatever happens by chance: all of it from one seed.
+//! Random numbers of a simulation, all from one seed.
 
 use rand_core::{Rng, SeedableRng};
 use rand_xoshiro::Xoshiro256PlusPlus;
@@ -16,18 +16,18 @@ impl Chance {
         }
     }
 
-    /// A number below a bound; 0 where the bound is 0.
+    /// Draws a number below a bound, or 0 if the bound is 0.
     pub fn below(&mut self, bound: u64) -> u64 {
         self.words.next_u64() % bound.max(1)
     }
 
-    /// A number from one to another, both among them.
+    /// Draws a number from `least` to `most`, both included.
     pub fn between(&mut self, least: u64, most: u64) -> u64 {
         let width = most.saturating_sub(least).saturating_add(1);
         least.saturating_add(self.below(width))
     }
 
-    /// Draws whether something happens that does so in so many of a thousand cases.
+    /// Draws whether an event happens, with this probability in thousandths.
     pub fn happens(&mut self, of_thousand: u64) -> bool {
         self.below(1_000) < of_thousand
     }

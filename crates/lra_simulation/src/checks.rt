@@ -1,11 +1,11 @@
-//! The conditions that have to hold of an action's end, as its client and its members saw it.
+//! Conditions on an action's end, as its client and its members saw it.
 
 use super::client::{Client, Finish};
 use super::member::{Member, Stand};
 use anyhow::{Result, ensure};
 use lra_model::ActionStatus;
 
-/// Returns whether a status is one of an action that is closed or cancelled so, or was.
+/// Returns whether an action of this status is being ended in this way, or was.
 fn is_of(finish: Finish, status: ActionStatus) -> bool {
     match finish {
         Finish::Close => matches!(
@@ -20,7 +20,7 @@ fn is_of(finish: Finish, status: ActionStatus) -> bool {
     }
 }
 
-/// Looks whether a client's end is in the journal. A nested action that closed may be cancelled with its parent.
+/// Checks that a client's answered end is in the journal. A nested action that closed may be cancelled with its parent.
 pub fn check_end(client: &Client, finish: Finish, status: ActionStatus) -> Result<()> {
     let is_undone = client.parent.is_some() && is_of(Finish::Cancel, status);
     ensure!(
@@ -30,7 +30,7 @@ pub fn check_end(client: &Client, finish: Finish, status: ActionStatus) -> Resul
     Ok(())
 }
 
-/// Looks whether a nested action ended as its parent did.
+/// Checks that a nested action's end fits that of its parent.
 pub fn check_nested(status: ActionStatus, parent: ActionStatus) -> Result<()> {
     let suits = match parent {
         ActionStatus::Closed => { matches!(status, ActionStatus::Closed | ActionStatus::Cancelled) }
@@ -44,7 +44,7 @@ pub fn check_nested(status: ActionStatus, parent: ActionStatus) -> Result<()> {
     Ok(())
 }
 
-/// Looks whether a member saw what its action's end says.
+/// Checks that what a member saw fits its action's end.
 pub fn check_member(member: &Member, status: ActionStatus) -> Result<()> {
     if status == ActionStatus::Closed {
         ensure!(

@@ -1,50 +1,50 @@
-//! A client: the action that it starts, who joins it, and how it is to end.
+//! A client: the action that it starts, the members that join it, and how the client ends it.
 
 use super::chance::Chance;
 use super::event::Call;
 use anyhow::{Result, bail};
 use lra_core::{Refusal, Told};
 
-/// The depth to which actions are nested.
+/// Depth to which actions are nested.
 const DEPTH: u64 = 4;
 
-/// The way in which a client ends its action.
+/// Way in which a client ends its action.
 #[derive(Clone, Copy, Debug, PartialEq, Eq)]
 pub enum Finish {
     Close,
     Cancel,
-    /// It doesn't: the action's limit passes.
+    /// The client doesn't end it: the action's limit passes.
     Never,
 }
 
 #[derive(Clone, Copy)]
 pub struct Client {
     pub site: usize,
-    /// The client whose action its own is nested in, by its place in the world.
+    /// Client in whose action its own is nested, as a place in the world.
     pub parent: Option<usize>,
     depth: u64,
-    /// In milliseconds; 0 is none.
+    /// Limit of its action, in milliseconds. 0 means none.
     pub limit: u64,
-    /// Its members, by their places in the world: so many from the first on, of whom some were let join.
+    /// First of its members, as a place in the world. The others follow; the first `joined` of them have joined.
     pub first: usize,
     pub members: usize,
     joined: usize,
-    /// The number of further clients that nest their actions in its own.
+    /// Number of further clients that nest their actions in its own.
     pub nested: u64,
     is_to_renew: bool,
     is_to_leave: bool,
     finish: Finish,
-    /// The number of its action, once it was told.
+    /// Number of its action, once the client was told it.
     pub action: Option<u64>,
-    /// The call that it has made and that isn't answered yet, and how often it made it.
+    /// Call that it has made and that isn't answered yet, and how often it made it.
     pub call: Option<Call>,
     pub tries: u64,
-    /// The end that it was told.
+    /// End of its action, once it was answered.
     pub ended: Option<Finish>,
     pub is_over: bool,
 }
 
-/// The limit of an action that a client ends so.
+/// Draws the limit of an action that its client ends in this way.
 fn limit_for(finish: Finish, chance: &mut Chance) -> u64 {
     match finish {
         Finish::Never => chance.between(1_000, 20_000),
@@ -62,7 +62,7 @@ fn finish_by(chance: &mut Chance) -> Finish {
 }
 
 impl Client {
-    /// A client at a site, or one whose action is nested in that of another.
+    /// Returns a client at a site. With a parent, its action is nested in that client's.
     pub fn new(site: usize, parent: Option<usize>, depth: u64, chance: &mut Chance) -> Client {
         let finish = finish_by(chance);
         Client {
@@ -89,12 +89,12 @@ impl Client {
         }
     }
 
-    /// Returns how deep the actions are that are nested in its own.
+    /// Returns the depth of the actions that are nested in its own.
     pub fn depth_below(&self) -> u64 {
         self.depth.saturating_add(1)
     }
 
-    /// Returns what it asks for next, if anything.
+    /// Returns its next call, if any.
     pub fn next_call(&self) -> Option<Call> {
         if self.is_over {
             None
@@ -116,7 +116,7 @@ impl Client {
         }
     }
 
-    /// Takes what a call was answered; an answer that no call may have is a fault.
+    /// Accepts the answer to a call. Fails if such a call can't have that answer.
     pub fn take(&mut self, call: Call, answer: Result<Told, Refusal>) -> Result<()> {
         self.call = None;
         match (call, answer) {

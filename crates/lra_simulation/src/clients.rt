@@ -1,4 +1,4 @@
-//! The events that happen to clients.
+//! Events of clients.
 
 use super::client::Client;
 use super::counts::add_one;
@@ -8,19 +8,19 @@ use super::world::{GAP, World};
 use anyhow::{Context, Result};
 use lra_core::{Refusal, Told};
 
-/// The time that a client waits for an answer, the number of times that it asks, and the time that it thinks in
-/// between.
+/// Time that a client waits for an answer, number of times that it asks, and time between an answer and its next
+/// request. The times are in milliseconds.
 const PATIENCE: u64 = 2_500;
 
 const TRIES: u64 = 6;
 
 const THOUGHT: (u64, u64) = (1, 400);
 
-/// The number of a thousand requests that come twice.
+/// Requests that are sent twice, of a thousand.
 const REPEATED: u64 = 20;
 
 impl World {
-    /// One more client comes to a site, and the next one after it.
+    /// Adds a client at a site, and plans the next arrival there.
     pub fn arrive(&mut self, site: usize) -> Result<()> {
         if self.left == 0 {
             return Ok(());
@@ -44,7 +44,7 @@ impl World {
         self.after(THOUGHT, Event::Thought { client: place })
     }
 
-    /// Another client nests its action in that of one.
+    /// Adds a client that nests its action in that of the client at this place.
     fn nest(&mut self, place: usize, client: Client) -> Result<()> {
         if self.left == 0 {
             return Ok(());
@@ -52,7 +52,7 @@ impl World {
         self.add_client(client.site, Some(place), client.depth_below())
     }
 
-    /// A client asks for what it wants next.
+    /// Sends a client's next request.
     pub fn think(&mut self, place: usize) -> Result<()> {
         let client = self.clients.get_mut(place).context("no client")?;
         let Some(call) = client.next_call() else {
@@ -70,7 +70,7 @@ impl World {
         self.ask_for(place, call)
     }
 
-    /// A client sends a request, once more or for the first time.
+    /// Sends a client's request, for the first time or again.
     fn ask_for(&mut self, place: usize, call: Call) -> Result<()> {
         let client = self.clients.get_mut(place).context("no client")?;
         client.tries = client.tries.saturating_add(1);
@@ -96,7 +96,7 @@ impl World {
         self.after((PATIENCE, PATIENCE), impatience)
     }
 
-    /// A client that wasn't answered asks again; but not for a start, which would be another one.
+    /// Repeats a request that wasn't answered. A start isn't repeated, since that would start another action.
     pub fn lose_patience(&mut self, place: usize, call: Call, tries: u64) -> Result<()> {
         let client = self.clients.get_mut(place).context("no client")?;
         if client.call != Some(call) || client.tries != tries {
@@ -111,14 +111,14 @@ impl World {
         self.ask_for(place, call)
     }
 
-    /// Another client starts an action in place of one whose start failed, as long as clients come.
+    /// Lets another client start an action in place of one whose start failed, as long as clients come.
     fn make_up_for(&mut self, call: Call) {
         if call == Call::Start && self.left > 0 {
             add_one(&mut self.left);
         }
     }
 
-    /// A client is answered.
+    /// Gives a client an answer.
     pub fn answer(
         &mut self,
         place: usize,
@@ -145,7 +145,7 @@ impl World {
         Ok(())
     }
 
-    /// Tells a member what its client was answered, where that concerns the member, too.
+    /// Passes a client's answer on to the member that it is about, if there is one.
     fn tell_member(&mut self, call: Call, answer: Result<Told, Refusal>) {
         match (call, answer) {
             (Call::Join { member }, Ok(Told::Member(number) | Told::AlreadyMember(number))) => {

@@ -4,7 +4,7 @@ use anyhow::Result;
 use lra_model::ActionStatus;
 use std::io::Print;
 
-/// The numbers of actions that ended in each way.
+/// Number of actions that ended in each way.
 #[derive(Clone, Copy, Default)]
 pub struct Ends {
     pub closed: u64,
@@ -15,7 +15,7 @@ pub struct Ends {
 }
 
 impl Ends {
-    /// One more action, of this status.
+    /// Counts an action of this status.
     pub fn count(&mut self, status: ActionStatus) {
         let count = match status {
             ActionStatus::Closed => &mut self.closed,
@@ -43,7 +43,7 @@ impl Ends {
     }
 }
 
-/// The counts of what happened in the world, and of what the journals have at the end.
+/// Counts of what happened in the world, and of what the journals contain at the end.
 #[derive(Clone, Copy, Default)]
 pub struct Counts {
     pub events: u64,
@@ -55,7 +55,7 @@ pub struct Counts {
     pub silences: u64,
     pub reports: u64,
     pub crashes: u64,
-    /// Bytes that a crash lost since they weren't on the disk, and those of a torn line that the opening cut.
+    /// Bytes lost in crashes because they weren't synced, and bytes of torn lines that openings cut.
     pub unsynced: u64,
     pub torn: u64,
     pub entries: u64,
@@ -69,18 +69,18 @@ pub struct Counts {
     pub ended: u64,
 }
 
-/// One more.
+/// Adds one to a count.
 pub fn add_one(count: &mut u64) {
     *count = count.saturating_add(1);
 }
 
-/// So many more.
+/// Adds to a count.
 pub fn add(count: &mut u64, more: usize) {
     *count = count.saturating_add(more as u64);
 }
 
 impl Counts {
-    /// Prints what happened.
+    /// Prints the counts of what happened.
     pub fn print_events<R: Print>(&self, rt: &R) -> Result<()> {
         let Counts {
             events,
@@ -109,7 +109,7 @@ impl Counts {
         Ok(())
     }
 
-    /// Prints what the journals have.
+    /// Prints the counts of what the journals contain.
     pub fn print_journals<R: Print>(&self, rt: &R) -> Result<()> {
         let Counts {
             actions,

@@ -1,9 +1,9 @@
-//! The events of the world, each at its moment.
+//! Events of the world.
 
 use lra_core::{Refusal, Told};
 use lra_model::{AskKind, Direction, Ending, Outcome};
 
-/// A request of a client to its site. Members are told by their places in the world.
+/// Request of a client to its site. Members are given as places in the world.
 #[derive(Clone, Copy, Debug, PartialEq, Eq)]
 pub enum Call {
     Start,
@@ -14,29 +14,29 @@ pub enum Call {
     Cancel,
 }
 
-/// An ask of a member, on its way.
+/// Ask of a member, on its way.
 #[derive(Clone, Copy, Debug)]
 pub struct Ask {
     pub site: usize,
-    /// The number of times that the site has crashed before.
+    /// Number of the site's crashes so far.
     pub life: u64,
     pub number: u64,
-    /// The member whose address is called, and what that address is for.
+    /// Member whose address is called, and the kind of that address.
     pub member: usize,
     pub kind: AskKind,
-    /// The numbers by which the site knows the member and its action.
+    /// Numbers of the member and its action at the site.
     pub member_number: u64,
     pub action_number: u64,
 }
 
-/// An event in the world.
+/// Event in the world.
 #[derive(Clone, Copy, Debug)]
 pub enum Event {
-    /// One more client comes to a site.
+    /// A client comes to a site.
     Arrival {
         site: usize,
     },
-    /// A client decides what it asks next.
+    /// A client decides on its next request.
     Thought {
         client: usize,
     },
@@ -45,13 +45,13 @@ pub enum Event {
         client: usize,
         call: Call,
     },
-    /// The answer to it arrives at the client.
+    /// The answer to a request arrives at the client.
     Answer {
         client: usize,
         call: Call,
         answer: Result<Told, Refusal>,
     },
-    /// A client has waited long enough for the answer to its so-manieth try.
+    /// A client gives up waiting for the answer to this try of a call.
     Impatience {
         client: usize,
         call: Call,
@@ -64,25 +64,25 @@ pub enum Event {
         ask: Ask,
         outcome: Outcome,
     },
-    /// A site has waited long enough for what comes of an ask.
+    /// A site gives up waiting for the outcome of an ask.
     GivenUp(Ask),
-    /// A member that went on by itself is done with it.
+    /// A member that went on by itself has finished.
     Done {
         member: usize,
         way: Direction,
     },
-    /// A report of a member on itself arrives at its site.
+    /// A member's report on itself arrives at its site.
     Report {
         member: usize,
         ending: Ending,
     },
-    /// So many bytes of a site's journal are on its disk.
+    /// A site's journal is synced up to `end`, in bytes.
     Sync {
         site: usize,
         life: u64,
         end: usize,
     },
-    /// A site has something to do by itself.
+    /// The moment of a site's planned work has come.
     Work {
         site: usize,
         life: u64,

@@ -1,14 +1,15 @@
-//! The events that happen to members.
+//! Events of members.
 
 use super::event::{Ask, Event};
 use super::world::World;
 use anyhow::{Context, Result, ensure};
 use lra_model::{Direction, Outcome};
 
-/// The time that a member goes on by itself.
+/// Time that a member goes on by itself, in milliseconds.
 const WORKING: (u64, u64) = (20, 3_000);
 
-/// The numbers of a thousand that fail then, that tell how they ended, and, of these, that do so twice.
+/// Members that fail at the end of that time, members that report their end, and reports that are sent twice: each of a
+/// thousand.
 const FAILING: u64 = 30;
 
 const TELLING: u64 = 700;
@@ -16,7 +17,7 @@ const TELLING: u64 = 700;
 const TWICE: u64 = 100;
 
 impl World {
-    /// A member is asked.
+    /// Delivers an ask to its member.
     pub fn hear(&mut self, ask: Ask) -> Result<()> {
         let member = self
             .members
@@ -31,7 +32,7 @@ impl World {
             client.action.unwrap_or(ask.action_number) == ask.action_number,
             "a member is asked in another action than its client's"
         );
-        // (a request to join that comes once more after it has left lets it join anew)
+        // (a repeated join request that arrives after the member has left lets it join anew)
         let is_known = member.number.unwrap_or(ask.member_number) == ask.member_number;
         ensure!(
             is_known || member.is_leaving,
@@ -50,7 +51,7 @@ impl World {
         self.reply(ask, outcome)
     }
 
-    /// A member answers, if it does.
+    /// Sends a member's reply to an ask, if it has one.
     fn reply(&mut self, ask: Ask, outcome: Option<Outcome>) -> Result<()> {
         match outcome {
             Some(outcome) => self.send(Event::Reply { ask, outcome }),
@@ -58,7 +59,7 @@ impl World {
         }
     }
 
-    /// A member that went on by itself is done with it, and may tell so by itself.
+    /// Ends what a member went on with by itself, and sends its report in most cases.
     pub fn finish(&mut self, place: usize, way: Direction) -> Result<()> {
         let has_failed = self.chance.happens(FAILING);
         let member = self.members.get_mut(place).context("no member")?;

@@ -1,6 +1,6 @@
-//! Simulates many sites, each a coordinator in memory, with clients and members whose messages are lost and late, and
-//! with crashes: all of it from one seed, so that a run that fails can be had again. At the end each journal is
-//! audited, and what clients and members saw is held against it.
+//! Simulates many sites, each a coordinator in memory. The messages of their clients and members may be lost or late,
+//! and sites crash. All chance comes from one seed, so that a failing run can be repeated. At the end the auditor
+//! audits each journal, and what clients and members saw is compared with it.
 #![tactic(auto)]
 
 mod audits;
@@ -27,11 +27,11 @@ use std::process::ExitCode;
 use words::{USAGE, setting_in};
 use world::{Setting, World};
 
-/// The status where a run fails.
+/// Exit status of a run that fails.
 const FAILED: u8 = 1;
 
 impl World {
-    /// Something happens.
+    /// Handles an event.
     fn happen(&mut self, event: Event) -> Result<()> {
         match event {
             Event::Arrival { site } => self.arrive(site),
@@ -59,7 +59,7 @@ impl World {
         }
     }
 
-    /// Lets everything happen until nothing goes on any more.
+    /// Handles events until no site has any left.
     fn play(&mut self) -> Result<()> {
         self.add_sites()?;
         for _ in 0..u64::MAX {
@@ -73,7 +73,7 @@ impl World {
         Ok(())
     }
 
-    /// Looks at each site.
+    /// Checks each site.
     fn check(&mut self) -> Result<()> {
         let seen = Seen {
             clients: self.clients.as_slice(),
@@ -88,14 +88,14 @@ impl World {
         Ok(())
     }
 
-    /// Plays, and looks at each site at the end.
+    /// Runs the world to its end, then checks each site.
     fn run(&mut self) -> Result<()> {
         self.play()?;
         self.check()
     }
 }
 
-/// Prints what a run came to, and tells the program's status.
+/// Prints the result of a run, and returns the program's exit status.
 fn print(rt: &HostRuntime, world: &World, told: Result<()>) -> Result<ExitCode> {
     let Setting {
         seed,
@@ -114,7 +114,7 @@ fn print(rt: &HostRuntime, world: &World, told: Result<()>) -> Result<ExitCode> 
     Ok(ExitCode::SUCCESS)
 }
 
-/// Runs a simulation, and prints what it came to.
+/// Runs a simulation, and prints its result.
 fn run(rt: &HostRuntime, setting: Setting) -> Result<ExitCode> {
     let mut world = World::new(rt.alloc(), setting);
     let told = world.run();

@@ -1,21 +1,21 @@
-//! A member: what it was asked, what it did, and what it says.
+//! A member: what it was asked, what it did, and what it replies.
 
 use super::chance::Chance;
 use lra_journal::UrisRef;
 use lra_model::{AskKind, Direction, Ending, Memory, Outcome, Uris};
 use std::alloc::Global;
 
-/// The progress that a member made in one way.
+/// Progress of a member in one direction.
 #[derive(Clone, Copy, Debug, PartialEq, Eq)]
 pub enum Stand {
     Untouched,
-    /// It goes on by itself.
+    /// The member goes on by itself.
     Working,
     Done,
     Failed,
 }
 
-/// The addresses that a member has beside the one to compensate.
+/// Addresses that a member has beside the one to compensate.
 #[derive(Clone, Copy)]
 pub struct Doors {
     pub complete: bool,
@@ -26,14 +26,14 @@ pub struct Doors {
 
 #[derive(Clone, Copy)]
 pub struct Member {
-    /// The client that lets it join, by its place in the world.
+    /// Client that lets it join, as a place in the world.
     pub client: usize,
     pub doors: Doors,
-    /// The number that the client was told.
+    /// Number that its client was told.
     pub number: Option<u64>,
-    /// The number that it was asked with.
+    /// Number that it was asked with.
     pub asked_as: Option<u64>,
-    /// Its leave was asked for, and was granted.
+    /// Set once its leave was asked for; `has_left` is set once it was granted.
     pub is_leaving: bool,
     pub has_left: bool,
     pub completion: Stand,
@@ -41,7 +41,7 @@ pub struct Member {
     pub was_told_to_compensate: bool,
 }
 
-/// Draws what a member does that is asked for something for the first time, and what it answers, if anything.
+/// Draws how far a member gets when it is asked for the first time, and its reply, if any.
 fn begin(chance: &mut Chance) -> (Stand, Option<Outcome>) {
     match chance.below(100) {
         0..4 => (Stand::Untouched, None),
@@ -52,7 +52,7 @@ fn begin(chance: &mut Chance) -> (Stand, Option<Outcome>) {
     }
 }
 
-/// Draws what a member does that is asked for something, having done that much, and what it answers, if anything.
+/// Draws how far a member gets when it is asked again, having got this far before, and its reply, if any.
 fn go_on(stand: Stand, chance: &mut Chance) -> (Stand, Option<Outcome>) {
     match stand {
         Stand::Untouched => begin(chance),
@@ -62,7 +62,7 @@ fn go_on(stand: Stand, chance: &mut Chance) -> (Stand, Option<Outcome>) {
     }
 }
 
-/// Draws what a member answers to a notice, if anything.
+/// Draws a member's reply to a notice, if any.
 fn notice(chance: &mut Chance) -> Option<Outcome> {
     if chance.happens(900) {
         Some(Outcome::Done)
@@ -103,7 +103,7 @@ impl Member {
         outcome
     }
 
-    /// Does what it is asked, and tells what it answers, if anything.
+    /// Does what it is asked, and returns its reply, if any.
     pub fn hear(&mut self, kind: AskKind, chance: &mut Chance) -> Option<Outcome> {
         match kind {
             AskKind::Complete => self.complete(chance),
@@ -118,7 +118,7 @@ impl Member {
         }
     }
 
-    /// Which way it goes on by itself, if it does.
+    /// Returns the direction in which it goes on by itself, if it does.
     pub fn working(&self) -> Option<Direction> {
         if self.compensation == Stand::Working {
             Some(Direction::Compensation)
@@ -129,7 +129,7 @@ impl Member {
         }
     }
 
-    /// Ends what it went on with by itself, unless it has ended before, and tells how.
+    /// Ends what it went on with by itself, and returns its ending. Returns none if it has ended before.
     pub fn finish(&mut self, way: Direction, has_failed: bool) -> Option<Ending> {
         let stand = if has_failed {
             Stand::Failed
@@ -158,18 +158,18 @@ impl Member {
     }
 }
 
-/// The address of a member for something.
+/// Returns the address of a member for this kind of ask.
 fn door(alloc: Global, kind: AskKind, place: usize) -> Result<String, Memory> {
     let name = kind.name();
     format!(in alloc; "http://member.test/{name}/{place}")
 }
 
-/// The text of an address that a member has, if it does.
+/// Returns the text of an address if the member has that address.
 fn shown(is_there: bool, text: &String) -> Option<&str> {
     if is_there { Some(text.as_str()) } else { None }
 }
 
-/// The addresses of a member.
+/// Returns the addresses of a member.
 pub fn uris_of(alloc: Global, place: usize, doors: Doors) -> Result<Uris, Memory> {
     let compensate = door(alloc, AskKind::Compensate, place)?;
     let complete = door(alloc, AskKind::Complete, place)?;
@@ -186,7 +186,7 @@ pub fn uris_of(alloc: Global, place: usize, doors: Doors) -> Result<Uris, Memory
     uris.to_uris(alloc)
 }
 
-/// Returns what an address is for, and whose it is.
+/// Returns the kind of an address and its member.
 pub fn address_of(text: &str) -> Option<(AskKind, usize)> {
     let (front, place) = text.rsplit_once('/')?;
     let (_, name) = front.rsplit_once('/')?;

@@ -1,4 +1,4 @@
-//! The events that happen at sites.
+//! Events of sites.
 
 ghost use Rattle.std.specs.Prelude.{◌≡◌, true};
 ghost use Rattle.lra_core.specs.Prepares.{is_suited};
@@ -12,19 +12,20 @@ use anyhow::{Context, Result, bail};
 use lra_core::{Command, Refusal, Told};
 use lra_model::{Ending, Outcome, Uris};
 
-/// The time that a site is down, in milliseconds.
+/// Time that a site is down, in milliseconds.
 const DOWN: (u64, u64) = (50, 1_000);
 
-/// So many of a thousand crashes come though nothing is written; others are tried again after so long.
+/// Crashes that come though nothing is being written, of a thousand. The others are tried again after `LATER`
+/// milliseconds.
 const IDLE: u64 = 20;
 
 const LATER: (u64, u64) = (1, 20);
 
-/// The most that a site does by itself at once.
+/// Most commands that a site performs by itself at once.
 const MOST: u32 = 1_000_000;
 
 impl World {
-    /// A client's request arrives at its site.
+    /// Delivers a client's request to its site. It is lost if the site is down.
     pub fn serve(&mut self, place: usize, call: Call) -> Result<()> {
         let client = *self.clients.get(place).context("no client")?;
         if !self.is_up(client.site) {
@@ -48,17 +49,17 @@ impl World {
         }
     }
 
-    /// The number of a client's action, which it was told.
+    /// Returns the number of a client's action, once the client was told it.
     fn action_of(&self, place: usize) -> Option<u64> {
         self.clients.get(place)?.action
     }
 
-    /// The number of a member, which its client was told.
+    /// Returns the number of a member, once its client was told it.
     fn number_of(&self, place: usize) -> Option<u64> {
         self.members.get(place)?.number
     }
 
-    /// Performs a client's request, and returns what it is answered.
+    /// Performs a client's request, and returns the answer.
     fn perform(&mut self, place: usize, call: Call) -> Result<Result<Told, Refusal>> {
         let client = *self.clients.get(place).context("no client")?;
         let site = client.site;
@@ -79,7 +80,7 @@ impl World {
         }
     }
 
-    /// A client's action starts.
+    /// Starts a client's action.
     fn start(&mut self, client: Client) -> Result<Result<Told, Refusal>> {
         let parent = match client.parent {
             Some(parent) => self.action_of(parent),
@@ -89,7 +90,7 @@ impl World {
         self.tell(client.site, &Command::Start { parent, limit })
     }
 
-    /// A member joins an action.
+    /// Lets a member join an action.
     fn join(&mut self, site: usize, action: u64, member: usize) -> Result<Result<Told, Refusal>> {
         let doors = self.members.get(member).context("no member")?.doors;
         let uris = uris_of(self.alloc, member, doors)?;
@@ -102,7 +103,7 @@ impl World {
         self.tell(site, &Command::Join { action, uris })
     }
 
-    /// Gives a site's coordinator a command.
+    /// Gives a command to a site's coordinator.
     fn tell(&mut self, place: usize, command: &Command<'_>) -> Result<Result<Told, Refusal>>
         requires { is_suited command.now ≡ true }
     {
@@ -110,7 +111,7 @@ impl World {
         Ok(site.tell(self.now, command))
     }
 
-    /// A site does what is due, and asks whom it is to ask.
+    /// Performs a site's work that is due: fires limits and sends asks.
     pub fn work(&mut self, place: usize, life: u64) -> Result<()> {
         let site = self.sites.get_mut(place).context("no site")?;
         if site.life != life || !site.begins_work(self.now) {
@@ -127,7 +128,7 @@ impl World {
         self.settle(place)
     }
 
-    /// A site asks all whom it is to ask.
+    /// Hands out all asks of a site that are due.
     fn ask_all(&mut self, place: usize) -> Result<()> {
         let site = self.sites.get_mut(place).context("no site")?;
         for _ in 0..MOST {
@@ -140,7 +141,7 @@ impl World {
         Ok(())
     }
 
-    /// Records what came of an ask at its site, unless the site has crashed since.
+    /// Records the outcome of an ask at its site, unless the site has crashed since.
     pub fn record(&mut self, ask: Ask, outcome: Outcome) -> Result<()> {
         let site = self.sites.get_mut(ask.site).context("no site")?;
         if site.life != ask.life {
@@ -153,7 +154,7 @@ impl World {
         self.settle(ask.site)
     }
 
-    /// Reports what a member tells of itself to its site.
+    /// Delivers a member's report on itself to its site.
     pub fn report(&mut self, place: usize, ending: Ending) -> Result<()> {
         let member = *self.members.get(place).context("no member")?;
         let site = self.clients.get(member.client).context("no client")?.site;
@@ -176,7 +177,7 @@ impl World {
         self.settle(site)
     }
 
-    /// A site crashes, or does so a little later: most crashes come while something is written.
+    /// Crashes a site, or plans the crash a little later if nothing is being written: most crashes interrupt a write.
     pub fn crash(&mut self, place: usize) -> Result<()> {
         if self.left == 0 || !self.is_up(place) {
             return Ok(());
@@ -194,7 +195,7 @@ impl World {
         self.plan_crash(place)
     }
 
-    /// A site that crashed opens its journal, and goes on.
+    /// Opens the journal of a site that crashed, and lets the site go on.
     pub fn open(&mut self, place: usize) -> Result<()> {
         let site = self.sites.get_mut(place).context("no site")?;
         let torn = site.open(self.alloc, self.now)?;

@@ -1,15 +1,15 @@
-//! The words of the command line.
+//! Words of the command line.
 
 use super::world::{Fault, Setting};
 use anyhow::{Context, Result, bail, ensure};
 use std::env;
 
-/// The most sites that there are numbers for, but for 0.
+/// Most sites that there are numbers for; 0 is no number of a site.
 const MOST_SITES: usize = 65_535;
 
 pub const USAGE: &str = "usage: lra_simulation SEED SITES ACTIONS [--lose-synced | --lose-quietly]";
 
-/// The number that a word spells.
+/// Parses a word as a number.
 fn number_in(word: Option<String>) -> Result<u64> {
     let word = word.context(USAGE)?;
     let number = word.parse();
@@ -20,7 +20,7 @@ fn number_in(word: Option<String>) -> Result<u64> {
     }
 }
 
-/// The fault of this name.
+/// Returns the fault of this name.
 fn fault_named(name: &str) -> Result<Fault> {
     match name {
         "--lose-synced" => Ok(Fault::LoseSynced),
@@ -29,7 +29,7 @@ fn fault_named(name: &str) -> Result<Fault> {
     }
 }
 
-/// The fault that a word asks for, where there is one.
+/// Returns the fault that a word names, if there is a word.
 fn fault_in(word: Option<String>) -> Result<Option<Fault>> {
     let Some(word) = word else {
         return Ok(None);
@@ -39,7 +39,7 @@ fn fault_in(word: Option<String>) -> Result<Option<Fault>> {
     Ok(Some(fault?))
 }
 
-/// Reads what the words of the command line ask for, if there are any.
+/// Parses the words of the command line. Returns none if there are none.
 pub fn setting_in(rt: &HostRuntime) -> Result<Option<Setting>> {
     let mut words = env::args(rt)?;
     let _program = words.next();

@@ -1,4 +1,4 @@
-//! Many sites, their clients and their members, and the network between them.
+//! World: many sites, their clients and their members, and the network between them.
 
 use super::calendar::Calendar;
 use super::chance::Chance;
@@ -10,16 +10,17 @@ use super::site::Site;
 use anyhow::{Context, Result, ensure};
 use std::alloc::Global;
 
-/// A way in which a world is broken, which has to be told.
+/// Fault of a world that a run has to detect.
 #[derive(Clone, Copy, Debug, PartialEq, Eq)]
 pub enum Fault {
-    /// A crash loses what was synced, too.
+    /// A crash loses synced bytes, too.
     LoseSynced,
-    /// The same, and an opening doesn't look how much had left the site: clients and members have to see it.
+    /// As `LoseSynced`, but an opening doesn't check how much had left the site: the checks of clients and members have
+    /// to detect the loss.
     LoseQuietly,
 }
 
-/// The setting that a simulation is asked for.
+/// Setting of a simulation.
 #[derive(Clone, Copy)]
 pub struct Setting {
     pub seed: u64,
@@ -28,8 +29,8 @@ pub struct Setting {
     pub fault: Option<Fault>,
 }
 
-/// The time that a message takes, in milliseconds, and one of the slow ones; so many of a thousand are slow, and so
-/// many are lost.
+/// Time of a quick message and of a slow one, in milliseconds, and how many of a thousand messages are slow and are
+/// lost.
 const QUICK: (u64, u64) = (1, 50);
 
 const SLOW: (u64, u64) = (50, 2_000);
@@ -38,16 +39,16 @@ const SLOW_ONES: u64 = 20;
 
 const LOST_ONES: u64 = 20;
 
-/// The time that a sync takes.
+/// Time of a sync, in milliseconds.
 const SYNC: (u64, u64) = (1, 20);
 
-/// The time that a site waits for what comes of an ask.
+/// Time that a site waits for the outcome of an ask, in milliseconds.
 const PATIENCE: u64 = 3_000;
 
-/// The time from a client of a site to the next one, at most.
+/// Longest time between two clients of a site, in milliseconds.
 pub const GAP: u64 = 600;
 
-/// A moment at which nothing goes on any more: 100 days after the first.
+/// Moment by which nothing goes on any more: 100 days after the first.
 const QUIET: u64 = 8_640_000_000;
 
 #[derive(Drop)]
@@ -61,12 +62,12 @@ pub struct World {
     pub members: Vec<Member>,
     pub counts: Counts,
     pub setting: Setting,
-    /// The number of actions that are yet to be started.
+    /// Number of actions that are yet to be started.
     pub left: u64,
 }
 
 impl World {
-    /// A world without sites.
+    /// Returns a world without sites.
     pub fn new(alloc: Global, setting: Setting) -> World {
         World {
             alloc,
@@ -82,13 +83,13 @@ impl World {
         }
     }
 
-    /// About how long clients come.
+    /// Returns about how long clients come, in milliseconds.
     fn span(&self) -> u64 {
         let each = self.setting.actions / (self.setting.sites as u64).max(1);
         each.saturating_mul(GAP / 2)
     }
 
-    /// Adds the sites, and what is to happen first at each.
+    /// Adds the sites, and plans the first events of each.
     pub fn add_sites(&mut self) -> Result<()> {
         for site in 0..self.setting.sites {
             self.sites.push(Site::new(self.alloc, site)?)?;
@@ -98,13 +99,13 @@ impl World {
         Ok(())
     }
 
-    /// Plans a crash of a site in a while.
+    /// Plans the next crash of a site.
     pub fn plan_crash(&mut self, site: usize) -> Result<()> {
         let span = self.span();
         self.after((span / 24, span / 8), Event::Crash { site })
     }
 
-    /// Plans that something happens after a time between two.
+    /// Plans an event after a time between `least` and `most` milliseconds.
     pub fn after(&mut self, (least, most): (u64, u64), event: Event) -> Result<()> {
         let time = self.chance.between(least, most);
         self.calendar.put(self.now.saturating_add(time), event)
@@ -125,13 +126,13 @@ impl World {
         self.after(time, event)
     }
 
-    /// Sends an ask, and waits for what comes of it.
+    /// Sends an ask, and plans when its site gives up on it.
     fn send_ask(&mut self, ask: Ask) -> Result<()> {
         self.send(Event::Ask(ask))?;
         self.after((PATIENCE, PATIENCE), Event::GivenUp(ask))
     }
 
-    /// Lets all leave a site that may, and plans its next sync and its next work.
+    /// Plans a site's next sync and its next work.
     pub fn settle(&mut self, place: usize) -> Result<()> {
         let site = self.sites.get_mut(place).context("there is no such site")?;
         let life = site.life;
@@ -152,7 +153,7 @@ impl World {
         Ok(())
     }
 
-    /// So many bytes of a site's journal are on its disk: what waited for them leaves.
+    /// Ends a sync of a site's journal up to `end`, and sends the events that waited for it.
     pub fn sync(&mut self, place: usize, life: u64, end: usize) -> Result<()> {
         {
             let site = self.sites.get_mut(place).context("there is no such site")?;
@@ -177,7 +178,8 @@ impl World {
         self.sites.get_mut(place)?.leaving()
     }
 
-    /// The next event, whose moment it is then; none once nothing goes on any more.
+    /// Removes the next event, moves the clock to its moment and returns it. Returns none once nothing goes on any
+    /// more.
     pub fn next_event(&mut self) -> Result<Option<Event>> {
         let Some((moment, event)) = self.calendar.next() else {
             return Ok(None);

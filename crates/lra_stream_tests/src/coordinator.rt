@@ -1,5 +1,4 @@
-//! A coordinator in memory, and what is done with one. A function that owns a coordinator lends it, and lets it go at
-//! one exit.
+//! A coordinator in memory, and helpers for it. A function that owns a coordinator lends it, and drops it at one exit.
 
 ghost use Rattle.std.specs.Prelude.{◌≡◌, IfSome, true};
 ghost use Rattle.lra_ids.specs.Addresses.{is_base};
@@ -9,7 +8,7 @@ use lra_ids::{Address, address};
 use lra_model::{Outcome, suits};
 use std::alloc::Global;
 
-/// Returns what URIs begin with.
+/// Returns the base of a coordinator's URIs.
 pub fn base(alloc: Global) -> Option<Address>
     ensures { IfSome result (λ base. is_base base ≡ true) }
 {
@@ -17,14 +16,14 @@ pub fn base(alloc: Global) -> Option<Address>
     if base.is_base() { Some(base) } else { None }
 }
 
-/// A coordinator without clerks.
+/// Returns a coordinator without clerks.
 pub fn coordinator(alloc: Global) -> Option<Coordinator> {
     let instance = Instance::new(7)?;
     let base = base(alloc)?;
     Some(Coordinator::new(alloc, instance, base, Limits::usual()))
 }
 
-/// Records what came of an errand, where it can be: whether it was.
+/// Records an outcome of an errand. Returns false if the errand can't have that outcome or the coordinator refuses it.
 pub fn record(
     coordinator: &mut Coordinator,
     moment: u64,

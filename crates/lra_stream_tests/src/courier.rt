@@ -1,4 +1,4 @@
-//! Callbacks: what is written, what replies come to, and streams that fail.
+//! Callbacks: their requests, the outcomes of replies, and streams that fail.
 mod carrying;
 mod dialling;
 mod errands;
@@ -11,7 +11,7 @@ mod tcp;
 use lra_courier::Callback;
 use lra_model::{AskKind, Direction};
 
-/// A callback to forget at this address.
+/// Returns a callback to forget at this address.
 fn forget(address: &str) -> Callback<'_> {
     Callback {
         kind: AskKind::Forget,

@@ -1,4 +1,4 @@
-//! The HTTP interface: streams over a counter at which nothing can be given, and in `bench` over a coordinator.
+//! The HTTP interface: streams over a counter that refuses every order, and in `bench` over a coordinator.
 mod bench;
 mod counter;
 mod memory;
@@ -30,7 +30,7 @@ GET /lra-recovery/x HTTP/1.0~~GET /a HTTP/1.1~Host: h~~|HTTP/1.1 404 Not Found#2
 GET /lra-coordinator/00000000-0000-8007-8000-000000000001 HTTP/1.1~Host: h~~|HTTP/1.1 503 Service Unavailable#16~~{\"error\":\"Worn\"}|Done
 GET /a HTTP/1.1~Host: h~X: y~X: y~X: y~X: y~X: y~X: y~X: y~X: y~X: y~X: y~X: y~X: y~X: y~X: y~X: y~X: y~X: y~X: y~X: y~X: y~X: y~X: y~X: y~X: y~X: y~X: y~X: y~X: y~X: y~X: y~X: y~X: y~X: y~X: y~X: y~X: y~X: y~X: y~X: y~X: y~X: y~X: y~X: y~X: y~X: y~X: y~X: y~X: y~X: y~X: y~X: y~X: y~X: y~X: y~X: y~X: y~X: y~X: y~X: y~X: y~X: y~X: y~X: y~X: y~~|HTTP/1.1 400 Bad Request#19~Connection: close~~{\"error\":\"BadHead\"}|BadHead";
 
-/// The word for how a stream ended.
+/// Returns the word for how a stream ended.
 fn end_word(end: StreamEnd) -> &'static str {
     match end {
         StreamEnd::Done => "Done",
@@ -45,7 +45,7 @@ fn end_word(end: StreamEnd) -> &'static str {
     }
 }
 
-/// Returns whether a counter's stream has this reply, where the sink takes it, and ends so.
+/// Returns whether a counter's stream has this reply, as far as the sink accepts it, and this end.
 fn comes_to<C: Counter>(
     alloc: Global,
     counter: &mut C,
@@ -59,7 +59,7 @@ fn comes_to<C: Counter>(
     sink.taken.as_slice() == reply && end_word(ended) == end
 }
 
-/// The same where the reply goes in pieces as large as those that come.
+/// Returns whether a counter's stream has this reply and this end. The reply goes in pieces of the reader's size.
 fn is_answered<C: Counter>(
     alloc: Global,
     counter: &mut C,
@@ -75,7 +75,7 @@ fn is_answered<C: Counter>(
     answered
 }
 
-/// The same at a counter at which nothing can be given.
+/// Returns whether a stream has this reply and this end at a counter that refuses every order.
 fn worn_answers(alloc: Global, reader: Pieces<'_>, reply: &str, end: &str) -> bool {
     let Some(mut counter) = worn_counter(alloc) else {
         return false;
@@ -85,7 +85,7 @@ fn worn_answers(alloc: Global, reader: Pieces<'_>, reply: &str, end: &str) -> bo
     answered
 }
 
-/// Returns whether the stream of a row is answered as the row says, whole and byte by byte.
+/// Returns whether the stream of a row has the row's reply and end, byte by byte and whole.
 fn row_is_answered(alloc: Global, row: &str) -> bool {
     let row = written_out(alloc, row);
     let (stream, rest) = parted(row.as_str(), "|");
@@ -103,7 +103,7 @@ fn answers_streams_whole_and_byte_by_byte(rt: HostRuntime) {
     }
 }
 
-/// Returns whether a stream has no reply that comes up to here, and then ends or fails.
+/// Returns whether a stream that ends or fails after these bytes has no reply, and this end.
 fn is_cut(alloc: Global, rest: &[u8], fails: bool, end: &str) -> bool {
     let reader = Pieces {
         rest,

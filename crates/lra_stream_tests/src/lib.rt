@@ -1,4 +1,4 @@
-//! Tests of what goes over connections: HTTP messages, the interface that answers them, and callbacks to members.
+//! Tests of connections: HTTP messages, the interface that answers them, and callbacks to members.
 #![tactic(auto)]
 
 #[cfg(test)]

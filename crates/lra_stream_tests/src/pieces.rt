@@ -1,10 +1,10 @@
-//! A reader that gives its bytes in pieces, and a writer that takes some bytes a call.
+//! A reader that gives its bytes in pieces, and a writer that accepts some bytes a call.
 use lra_wire::Inbox;
 use std::alloc::{AllocError, Global};
 use std::io;
 use std::io::{Read, Write};
 
-/// Gives at most `size` bytes a call. At the end it fails, where it is told to.
+/// Reader of at most `size` bytes a call. After its last byte it ends, or fails if `fails` is set.
 #[derive(Drop)]
 pub struct Pieces<'a> {
     pub rest: &'a [u8],
@@ -13,7 +13,7 @@ pub struct Pieces<'a> {
 }
 
 impl Pieces<'_> {
-    /// A text in pieces of this size, which then ends.
+    /// Returns a reader of a text in pieces of this size, which then ends.
     pub fn of(text: &str, size: usize) -> Pieces<'_> {
         Pieces {
             rest: text.as_bytes(),
@@ -33,7 +33,7 @@ impl Read for Pieces<'_> {
     }
 }
 
-/// An inbox over bytes that come in pieces of this size. Then they end, or the reader fails.
+/// Returns an inbox over bytes that come in pieces of this size. Then the reader ends or fails.
 pub fn in_pieces(
     alloc: Global,
     rest: &[u8],
@@ -43,7 +43,7 @@ pub fn in_pieces(
     Inbox::new(alloc, Pieces { rest, size, fails })
 }
 
-/// Takes at most `size` bytes a call, and `room` in all, and then fails.
+/// Writer that accepts at most `size` bytes a call, and fails after `room` bytes.
 #[derive(Drop)]
 pub struct Sink {
     pub taken: Vec<u8>,
@@ -52,7 +52,7 @@ pub struct Sink {
 }
 
 impl Sink {
-    /// A writer that has taken nothing.
+    /// Returns a writer that has accepted nothing yet.
     pub fn new(alloc: Global, size: usize, room: usize) -> Sink {
         Sink {
             taken: Vec::new(alloc),

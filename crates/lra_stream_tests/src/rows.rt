@@ -1,19 +1,20 @@
-//! Tables: texts of rows, and each row of columns. What a table's signs stand for is written out.
+//! Tables: texts of rows of columns. Signs in a table stand for longer texts.
 
 use std::alloc::{AllocError, Global};
 
-/// Returns what stands before the first such sign, and behind it: all and nothing, where there is none.
+/// Splits a row at the first `sign`. Without one it returns the whole row and an empty text.
 pub fn parted<'a>(row: &'a str, sign: &str) -> (&'a str, &'a str) {
     row.split_once(sign).unwrap_or((row, ""))
 }
 
-/// The number that a text spells.
+/// Parses a number.
 pub fn number(text: &str) -> Option<u64> {
     text.parse().ok()
 }
 
-/// Writes out a sign: `~` ends a line, and `^` is a line feed; `&` and `#` stand in a request's and in a reply's first
-/// lines, before the length; and `@`, `$` and `%` are the front of an ID, of an action's URI and of a member's.
+/// Writes a sign out: `~` is a line's end, and `^` a line feed. `&` and `#` stand for the text up to the length, in a
+/// request's and in a reply's first lines. `@`, `$` and `%` are the front of an ID, of an action's URI and of a
+/// member's URI.
 fn put_sign(sign: char, text: &mut String) -> Result<(), AllocError> {
     match sign {
         '~' => text.push_str("\r\n"),
@@ -38,7 +39,7 @@ fn put_signs(signs: &str, text: &mut String) -> Result<(), AllocError> {
     Ok(())
 }
 
-/// A text of a table, written out. Nothing, where memory is refused.
+/// Returns a text of a table with its signs written out. It is empty if memory is refused.
 pub fn written_out(alloc: Global, signs: &str) -> String {
     let mut text = String::new(alloc);
     if put_signs(signs, &mut text).is_err() {
@@ -47,7 +48,7 @@ pub fn written_out(alloc: Global, signs: &str) -> String {
     text
 }
 
-/// So many times a text, and then another.
+/// Returns a text `count` times, and then another.
 pub fn repeated(alloc: Global, text: &str, count: usize, last: &str) -> Result<String, AllocError> {
     let mut texts = text.repeat(alloc, count)?;
     texts.push_str(last)?;

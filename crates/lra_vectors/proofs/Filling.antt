@@ -9,7 +9,7 @@ use Rattle.lra_laws.proofs.SheetPush.{StandsFor-push}
 use Rattle.lra_ids.specs.Addresses.{is_address}
 use Rattle.lra_core.proofs.Reopening.{one_more, next_may, next_allowed}
 
--- the sheet after an entry is that of one entry more
+-- The sheet after an entry is that of the history's front that ends with the entry.
 pub next_sheet : (v : Version) (s u : Sheet) (J : History) (i : ℕ) (e : Entry) → is_legal v is_address J ≡ true → i
     < length J → e ≡ get_or J i e → s ≡ sheet_of (take i J) → u ≡ sheet_after e s → u ≡ sheet_of (take (i + 1) J)
 next_sheet v s u J i e l lt is h after =

@@ -1,4 +1,4 @@
-//! Verdicts in pieces of every size, after a fault, and on entries in memory. Worked journals are asked of the built
+//! Verdicts in pieces of every size, after a fault, and on entries in memory. Worked journals are tested on the built
 //! program (`vectors/audit`, `vectors/show`).
 
 ghost use Rattle.std.specs.Prelude.{◌≡◌, ◌+◌, ◌<◌, ◌^◌, length};
@@ -12,14 +12,14 @@ use lra_model::Entry;
 use std::alloc::{AllocError, Global};
 use std::process::Abort;
 
-/// A nested action closes, and is taken back when the one around it is cancelled.
+/// Journal of a nested action that closes, and is compensated when its parent is cancelled.
 const NESTED: &str =
     "lra-journal 1 7;1 0 enrol;1 0 start 1 * 0;1 1 start 2 1 0;1 2 join 1 2 http://n.test/u http://n.test/c * http://n.test/f http://n.test/a;1 3 close 2 client;1 4 ask 1 1 complete;1 5 reply 1 done;1 5 end 2 Closed;1 6 cancel 1 client;1 6 cancel 2 parent;1 7 ask 2 1 compensate;1 8 reply 2 done;1 8 end 2 Cancelled;1 8 end 1 Cancelled;1 9 ask 3 1 after;1 10 reply 3 silent;1 110 ask 4 1 after;1 111 reply 4 done;";
 
-/// The verdict on the nested journal.
+/// Verdict on the nested journal.
 const NESTED_VERDICT: &str = "18 entries, 2 actions, 0 unended, 0 closed, 2 cancelled, 0 failed";
 
-/// Adds what is told of a legal history, in two halves.
+/// Writes the summary of a legal history, in two halves.
 fn put_told(text: &mut String, summary: &Summary) -> Result<(), Memory> {
     let (entries, actions, unended) = (summary.entries, summary.actions, summary.unended);
     write!(
@@ -34,14 +34,14 @@ fn put_told(text: &mut String, summary: &Summary) -> Result<(), Memory> {
     )
 }
 
-/// Returns what is told of a legal history.
+/// Returns the text of a legal history's summary.
 fn told_of(alloc: Global, summary: &Summary) -> Result<String, Memory> {
     let mut text = String::new(alloc);
     put_told(&mut text, summary)?;
     Ok(text)
 }
 
-/// Returns what a verdict tells.
+/// Returns the text of a verdict.
 fn told(alloc: Global, verdict: Verdict) -> Result<String, Memory> {
     match verdict {
         Verdict::Sound(summary) => {
@@ -56,7 +56,7 @@ fn told(alloc: Global, verdict: Verdict) -> Result<String, Memory> {
     }
 }
 
-/// Returns what an audit of bytes tells.
+/// Audits bytes, and returns the text of the verdict.
 fn told_whole(alloc: Global, bytes: &[u8]) -> Result<String, Memory> {
     match audit(alloc, bytes) {
         Ok(verdict) => told(alloc, verdict),
@@ -64,8 +64,8 @@ fn told_whole(alloc: Global, bytes: &[u8]) -> Result<String, Memory> {
     }
 }
 
-/// Feeds bytes in pieces of this size, or of one byte where it is 0. Where memory runs out the auditor is spent from
-/// then on; where it isn't, that is another fault.
+/// Feeds bytes in pieces of this size, or of one byte if it is 0. If memory runs out the auditor is spent from then on.
+/// If it isn't spent, the function returns another fault.
 fn feed_pieces(auditor: &mut Auditor, bytes: &[u8], size: usize) -> Result<(), AuditorFault>
     requires { auditor.old.fed ≡ 0 }
 {
@@ -81,13 +81,13 @@ fn feed_pieces(auditor: &mut Auditor, bytes: &[u8], size: usize) -> Result<(), A
     Ok(())
 }
 
-/// Returns what is told at the end of an auditor that was fed.
+/// Finishes an auditor that was fed, and returns the text of its verdict.
 fn told_at_end(alloc: Global, auditor: Auditor) -> Result<String, AuditorFault> {
     let verdict = auditor.finish()?;
     Ok(told(alloc, verdict)?)
 }
 
-/// Returns what is told at the end, or the fault of an auditor that is spent then.
+/// Returns the verdict's text if the feeding succeeded, or else its fault. The auditor has to be spent after a fault.
 fn ended(
     fed: Result<(), AuditorFault>,
     told: Result<String, AuditorFault>,
@@ -100,32 +100,32 @@ fn ended(
     Err(if is_spent { fault } else { AuditorFault::Spent })
 }
 
-/// Returns what is told of bytes that are fed in pieces of this size.
+/// Feeds bytes in pieces of this size, and returns the text of the verdict.
 fn told_in_pieces(alloc: Global, bytes: &[u8], size: usize) -> Result<String, AuditorFault> {
     let mut auditor = Auditor::new(alloc);
     let fed = feed_pieces(&mut auditor, bytes, size);
     ended(fed, told_at_end(alloc, auditor))
 }
 
-/// In pieces of this size the verdict on the bytes is the one that is wanted.
+/// Asserts that bytes in pieces of this size have the wanted verdict.
 fn assert_judged_by<R: Abort + AllocGlobal>(rt: &R, bytes: &[u8], size: usize, want: &str) {
     let told = told_in_pieces(rt.alloc(), bytes, size);
     assert_told(rt, "pieces", told.ok(), want);
 }
 
-/// A journal whose lines end in semicolons.
+/// Returns a journal, from lines that end in semicolons.
 fn journal_of(alloc: Global, lines: &str) -> Result<String, Memory> {
     lines.replace(alloc, ';', "\n")
 }
 
-/// In pieces of every size the verdict on a journal is the one that is wanted.
+/// Asserts that a journal in pieces of every size has the wanted verdict.
 fn assert_judged_by_every<R: Abort + AllocGlobal>(rt: &R, journal: &str, want: &str) {
     for size in 1..=journal.len() {
         assert_judged_by(rt, journal.as_bytes(), size, want);
     }
 }
 
-/// Journals that break off in a line: the second has a fault before that.
+/// Audits journals that break off in a line. The second one has a fault before that.
 #[test]
 fn pieces_of_every_size(rt: HostRuntime) {
     assert_judged_by_every(
@@ -140,7 +140,7 @@ fn pieces_of_every_size(rt: HostRuntime) {
     );
 }
 
-/// Feeds a line at fault, and others after it.
+/// Feeds a faulty line, and others after it.
 fn feed_fault(auditor: &mut Auditor) -> Result<(), AuditorFault>
     requires { auditor.old.fed ≡ 0 }
 {
@@ -157,7 +157,7 @@ fn pieces_after_a_fault(rt: HostRuntime) {
     assert_told(&rt, "pieces after a fault", verdict.ok(), "line 2 clerk");
 }
 
-/// Returns what a check of the entries from a place on tells.
+/// Checks the entries from a place on, and returns the text of the verdict.
 fn told_from(
     alloc: Global,
     version: Version,
@@ -170,7 +170,7 @@ fn told_from(
     }
 }
 
-/// Returns what a check of a journal's entries from a place on tells.
+/// Checks a journal's entries from a place on, and returns the text of the verdict.
 fn told_in_memory(alloc: Global, bytes: &[u8], place: usize) -> Result<String, Memory> {
     match read_journal(alloc, bytes) {
         Ok((version, _, entries)) => {
@@ -182,7 +182,7 @@ fn told_in_memory(alloc: Global, bytes: &[u8], place: usize) -> Result<String, M
     }
 }
 
-/// The same of one whose lines end in semicolons.
+/// Checks the entries of a journal whose lines end in semicolons, from a place on, and returns the text of the verdict.
 fn told_of_lines(alloc: Global, lines: &str, place: usize) -> Result<String, Memory> {
     let journal = journal_of(alloc, lines)?;
     told_in_memory(alloc, journal.as_bytes(), place)

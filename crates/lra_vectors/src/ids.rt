@@ -1,4 +1,4 @@
-//! Addresses by the URL Standard, the texts that are refused, and the identifiers of actions and members.
+//! Addresses by the URL Standard, texts that are refused, and the identifiers of actions and members.
 
 use crate::texts::{Telling, assert_rows, assert_told, parted};
 use lra_ids::{
@@ -8,7 +8,7 @@ use lra_ids::{
 use std::alloc::Global;
 use url::ParseError;
 
-// What each row shows: a text, and the address that it stands for by the URL Standard or the words of the fault.
+// Each row: a text, and its address by the URL Standard or the text of the fault.
 const FORMS: &str = "\
 HTTP://P.test:80/a b -> http://p.test/a%20b
 http://p.test/u -> http://p.test/u
@@ -110,11 +110,11 @@ p.test:80/x -> not an http URL
 httpx://p.test/ -> not an http URL
 ";
 
-// The same, of texts with line feeds: each ends before a `|`.
+// Rows of texts with line feeds. Each ends before a `|`.
 const FEEDS: &str =
     " -> not a URL|\u{1} http://p.test/x \n -> http://p.test/x|http://p.t\nest/a\tb -> http://p.test/ab";
 
-// The address that a text stands for, or the words of the fault.
+// Returns the address that a text stands for, or the text of the fault.
 fn answer(alloc: Global, text: &str) -> Result<String, Memory> {
     match address(alloc, text) {
         Ok(own) => own.as_str().to_string(alloc),
@@ -122,7 +122,7 @@ fn answer(alloc: Global, text: &str) -> Result<String, Memory> {
     }
 }
 
-// The same, where the text is an address as it stands exactly if it stands for itself.
+// Runs `answer`, and checks that the text is an address as it stands exactly if it stands for itself.
 fn checked_answer(alloc: Global, text: &str) -> Option<String> {
     let is_own = is_address_text(alloc, text.as_bytes()).ok()?;
     let answer = answer(alloc, text).ok()?;
@@ -159,7 +159,7 @@ fn addresses_by_the_standard(rt: HostRuntime) {
     assert!(rt; is_address_text(rt.alloc(), b"http://p.test/\xFF".as_slice()) == Ok(false));
 }
 
-// What is answered where the parser has a fault.
+// Returns the text of the fault that a fault of the parser becomes.
 fn told_of(alloc: Global, fault: ParseError) -> Option<String> {
     let fault = UriFault::from(fault);
     format!(in alloc; "{fault}").ok()
@@ -173,7 +173,7 @@ fn faults_of_the_parser(rt: HostRuntime) {
     assert_told(&rt, "a port", told, "not a URL");
 }
 
-// The front, and then the letter until the text has so many bytes.
+// Returns the front, followed by the letter until the text has this length in bytes.
 fn filled(alloc: Global, front: &str, letter: &str, len: usize) -> Result<String, Memory> {
     let mut text = front.to_string(alloc)?;
     for _ in text.len()..len {
@@ -182,8 +182,8 @@ fn filled(alloc: Global, front: &str, letter: &str, len: usize) -> Result<String
     Ok(text)
 }
 
-// A front, what it is filled with, a length, and the length of the address that this text stands for or the words of
-// the fault. The input is measured before it is read, and the URL's text after its scheme. A space becomes three bytes.
+// A front, the letter that fills it, a length, and the length of the text's address or the text of the fault. The
+// input's length is checked before it is read, and the URL's length after its scheme. A space becomes three bytes.
 const LONG_TEXTS: &str = "\
 http://p.test/|a|512 -> 512
 http://p.test/|a|513 -> longer than 512 bytes
@@ -245,7 +245,7 @@ fn parts_of_addresses(rt: HostRuntime) {
     assert_rows(&rt, &Parts, PARTS);
 }
 
-// The text of a copy.
+// Returns the text of an address's copy.
 fn copied(alloc: Global, text: &str) -> Option<String> {
     let own = address(alloc, text).ok()?;
     let copy = own.copy();
@@ -289,7 +289,7 @@ impl Telling for IsBase {
     }
 }
 
-// Whether a text of so many bytes is one, to which a slash is added.
+// Returns whether a text of this length is a base. A slash is added to it.
 fn is_long_base(alloc: Global, len: usize) -> Option<String> {
     let text = filled(alloc, "http://", "a", len).ok()?;
     is_base(alloc, text.as_str())
@@ -302,7 +302,7 @@ fn bases(rt: HostRuntime) {
     assert_told(&rt, "400 bytes", is_long_base(rt.alloc(), 400), "false");
 }
 
-// The second try has memory where the first had none.
+// Returns a base. If the first try has no memory the second has.
 fn base(alloc: Global) -> Option<Address> {
     match address(alloc, "http://p.test/") {
         Ok(base) => Some(base),
@@ -310,7 +310,7 @@ fn base(alloc: Global) -> Option<Address> {
     }
 }
 
-// The URIs of the action and of the member of this number.
+// Returns the URIs of the action and of the member of this number.
 fn uris_of(alloc: Global, instance: Instance, n: u64, base: &Address) -> Option<(String, String)> {
     if n == 0 || n >= 1 << 62 || !base.is_base() {
         return None;
@@ -320,7 +320,7 @@ fn uris_of(alloc: Global, instance: Instance, n: u64, base: &Address) -> Option<
     Some((action, recovery))
 }
 
-// Adds what a text is read as: an action's URI, a member's, or a UUID alone.
+// Writes what a text is read as: an action's URI, a member's URI, and a UUID alone.
 fn push_reading(told: &mut String, text: &str, instance: Instance, base: &Address) -> Option<()> {
     let action = read_action(text, instance, base);
     let recovery = read_recovery(text, instance, base);
@@ -328,14 +328,14 @@ fn push_reading(told: &mut String, text: &str, instance: Instance, base: &Addres
     write!(told, "{action:?} {recovery:?} {id:?}").ok()
 }
 
-// Adds a text and what it is read as.
+// Writes a text, and what it is read as.
 fn push_spelled(told: &mut String, text: &str, instance: Instance, base: &Address) -> Option<()> {
     told.push_str(text).ok()?;
     told.push(' ').ok()?;
     push_reading(told, text, instance, base)
 }
 
-// An instance, a number, and the URIs that they have together, each with what it is read as.
+// An instance, a number, and their URIs, each with what it is read as.
 const IDENTIFIERS: &str = "\
 7 1 -> http://p.test/lra-coordinator/00000000-0000-8007-8000-000000000001 Some(1) None None http://p.test/lra-recovery/00000000-0000-8007-8000-000000000001 None Some(1) None
 0 4611686018427387903 -> http://p.test/lra-coordinator/00000000-0000-8000-bfff-ffffffffffff Some(4611686018427387903) None None http://p.test/lra-recovery/00000000-0000-8000-bfff-ffffffffffff None Some(4611686018427387903) None
@@ -375,7 +375,7 @@ const UUIDS: &str = "\
 1152921504606846975 ffffffff-ffff-8fff-bfff-ffffffffffff -> None None Some(4611686018427387903)
 ";
 
-// What a text is read as.
+// Returns what a text is read as.
 fn reading(alloc: Global, instance: Instance, text: &str) -> Option<String> {
     let base = base(alloc)?;
     let mut told = String::new(alloc);
@@ -401,7 +401,7 @@ fn spelled_identifiers(rt: HostRuntime) {
     assert_rows(&rt, &Readings, UUIDS);
 }
 
-// Another instance, another base, and texts that are no UUID of the instance or not in their one spelling.
+// Another instance, another base, and texts that are no UUID of the instance or aren't spelled as they have to be.
 const NO_IDENTIFIERS: &str = "\
 7 http://p.test/lra-coordinator/00000000-0000-8008-8000-000000000001 -> None None None
 7 http://p.test:81/lra-coordinator/00000000-0000-8007-8000-000000000001 -> None None None
@@ -433,7 +433,7 @@ fn uris_again(alloc: Global, instance: Instance, base: &Address) -> Option<(Stri
     }
 }
 
-// The URI of an action.
+// Returns the URI of an action.
 fn action_uri(alloc: Global) -> Option<String> {
     let seven = Instance::new(7)?;
     let base = base(alloc)?;
@@ -444,7 +444,7 @@ fn action_uri(alloc: Global) -> Option<String> {
     Some(action)
 }
 
-// Run with one allocation failing in turn: a spelling that takes a refused growth is refused, and the next one has
+// Run with one allocation failing in turn: a spelling that needs a refused growth is refused, and the next one has
 // memory.
 #[test]
 fn a_refused_growth_is_memory_at_a_spelling(rt: HostRuntime) {

@@ -1,4 +1,4 @@
-//! Tests of the crates below: each over their public surface alone.
+//! Tests of the crates below, each through its public API only.
 #![tactic(auto)]
 
 #[cfg(test)]

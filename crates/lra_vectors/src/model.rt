@@ -1,4 +1,4 @@
-//! The words of the model: names, statuses, outcomes that suit, numbers of coordinators, and copies.
+//! Words of the model: names, statuses, outcomes that suit, numbers of coordinators, and copies.
 
 use crate::texts::assert_told;
 use lra_model::{
@@ -45,7 +45,7 @@ fn outcomes_suit_kinds(rt: HostRuntime) {
     assert!(rt; !suits(AskKind::After, Outcome::Accepted));
 }
 
-// Whether a coordinator may have this number, and has it then.
+// Returns whether a coordinator may have this number, and has it then.
 fn is_number(number: u64) -> bool {
     match Instance::new(number) {
         Some(instance) => instance.number() == number,
@@ -59,7 +59,7 @@ fn numbers_of_coordinators_end_below_two_to_sixty(rt: HostRuntime) {
     assert!(rt; Instance::new(1 << 60).is_none());
 }
 
-// A copy of an entry, printed.
+// Returns a copy of an entry, printed.
 fn shown_copy(alloc: Global, entry: &Entry) -> Option<String> {
     let copy = entry.copy().ok()?;
     let shown = format!(in alloc; "{copy:?}");
@@ -67,7 +67,7 @@ fn shown_copy(alloc: Global, entry: &Entry) -> Option<String> {
     shown.ok()
 }
 
-// A copy of a member's joining with this address alone, printed.
+// Returns a copy of the entry of a member's joining with this address only, printed.
 fn joined(alloc: Global, after: &str) -> Option<String> {
     let after = String::from_str(alloc, after).ok()?;
     let entry = Entry {

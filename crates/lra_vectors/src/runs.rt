@@ -1,4 +1,4 @@
-//! The runs of the program, each over inputs in memory.
+//! Runs of the program, each over inputs in memory.
 
 mod again;
 mod fakes;
@@ -13,7 +13,7 @@ use std::alloc::Global;
 use std::io::Write;
 use std::str::from_utf8;
 
-/// The report that words ask for, if it is one.
+/// Returns the report that the words ask for, or none if they ask for another command.
 fn report(words: &str) -> Option<Invocation<'_>> {
     let (verb, file) = parted(words, " ");
     if verb == "audit" {
@@ -25,7 +25,7 @@ fn report(words: &str) -> Option<Invocation<'_>> {
     (verb == "upgrade").then_some(Invocation::Upgrade { file })
 }
 
-/// Carries out the report that words ask for, or plays a script.
+/// Runs the report that the words ask for, or plays a script.
 fn carry_out<S: Sources, W: Write>(
     alloc: Global,
     sources: &S,
@@ -38,13 +38,13 @@ fn carry_out<S: Sources, W: Write>(
     }
 }
 
-/// Returns what is printed, and the outcome.
+/// Returns the printed text, followed by the outcome.
 fn shown(alloc: Global, printed: &[u8], outcome: Result<u8, RunFault>) -> Option<String> {
     let printed = from_utf8(printed).ok()?;
     format!(in alloc; "{printed}{outcome:?}").ok()
 }
 
-/// Returns what is printed where words ask for something, and the outcome.
+/// Runs the command that the words ask for, and returns the printed text, followed by the outcome.
 fn told<S: Sources>(alloc: Global, sources: &S, words: &str) -> Option<String> {
     let mut printed = Vec::new(alloc);
     let outcome = carry_out(alloc, sources, words, &mut printed);
@@ -55,7 +55,7 @@ fn told<S: Sources>(alloc: Global, sources: &S, words: &str) -> Option<String> {
 
 const JOURNAL: &str = "lra-journal 1 7\n1 0 enrol\n1 0 start 1 * 0\n1 5 start 2 1 0\n";
 
-/// The text that is printed, with the outcome behind it.
+/// Text that is printed, followed by the outcome.
 const AUDITED: &str = "sound entries 3 actions 2 unended 2 closed 0 cancelled 0 failed 0\nOk(0)";
 
 const LISTED: &str = "action 1 * Active\naction 2 1 Active\nOk(0)";
@@ -66,19 +66,18 @@ const CLOSED: &str =
 const CLOSED_UPGRADED: &str =
     "lra-journal 2 7\n1 0 enrol\n1 0 start 1 * 0\n1 5 close 1 client\n1 5 end 1 Closed\nOk(0)";
 
-/// A journal whose action ends as it can't.
+/// Journal with an impossible end of an action.
 const MISTAKEN: &str =
     "lra-journal 1 7\n1 0 enrol\n1 0 start 1 * 0\n1 5 close 1 client\n1 5 end 1 FailedToClose\n";
 
-/// A script that closes an action with a member, and records twice what came of its ask.
+/// Script that closes an action with a member, and records the outcome of its ask twice.
 const SCRIPT: &str =
     "0 0 enrol\n1 0 start * 9\n1 1 join 1 http://p.test/u http://p.test/c * * *\n1 5 close 1\n1 6 ask\n1 7 reply 1 done\n1 8 reply 1 done\n";
 
 const PLAYED: &str =
     "+ lra-journal 2 7\nclerk 1\n+ 1 0 enrol\naction 1\n+ 1 0 start 1 * 9\nmember 1\n+ 1 1 join 1 1 http://p.test/u http://p.test/c * * *\nnow Closing\n+ 1 5 close 1 client\nask 1 1 complete http://p.test/c\n+ 1 6 ask 1 1 complete\nrecorded\n+ 1 7 reply 1 done\n+ 1 7 end 1 Closed\nrefused NotAsked\nOk(1)";
 
-/// The words that ask for something of a file, the text that is read there, the text that is printed with the outcome
-/// behind it, and the status.
+/// A command on a file, the file's text, the text that is printed, followed by the outcome, and the status.
 #[derive(Clone, Copy)]
 struct Case {
     words: &'static str,
@@ -87,7 +86,7 @@ struct Case {
     status: u8,
 }
 
-/// The number of cases.
+/// Number of cases.
 const CASES: u8 = 5;
 
 fn case_of(words: &'static str, text: &'static str, want: &'static str, status: u8) -> Case {
@@ -109,7 +108,7 @@ fn case_at(place: u8) -> Case {
     }
 }
 
-/// Returns what comes of a case whose file is read haltingly.
+/// Runs a case whose file is read haltingly, and returns the printed text, followed by the outcome.
 fn told_haltingly(alloc: Global, case: Case, fails: bool) -> Option<String> {
     let source = Halts {
         text: case.text,
@@ -144,7 +143,7 @@ fn an_input_may_fail(rt: HostRuntime) {
     }
 }
 
-/// The outcome of a case where there is so much room.
+/// Returns the outcome of a case whose output has this room.
 fn outcome(alloc: Global, case: Case, room: usize) -> Result<u8, RunFault> {
     let source = Halts {
         text: case.text,
@@ -153,7 +152,7 @@ fn outcome(alloc: Global, case: Case, room: usize) -> Result<u8, RunFault> {
     carry_out(alloc, &source, case.words, &mut Full { room })
 }
 
-/// Returns whether all of a case's output is written, and no less room will do.
+/// Returns whether a case's output is written whole, and doesn't fit in less room.
 fn is_written_whole(alloc: Global, case: Case) -> bool {
     let (printed, _) = parted(case.want, "Ok(");
     let len = printed.len();
@@ -172,7 +171,7 @@ fn an_output_may_fail(rt: HostRuntime) {
     }
 }
 
-/// A writer that grows no more. Where memory for it is refused, the second try has it.
+/// Returns a writer that needs no growth. If it is refused memory the second try has it.
 fn grown(alloc: Global) -> Option<Vec<u8>> {
     match Vec::with_capacity(alloc, 1024) {
         Ok(out) => Some(out),
@@ -180,7 +179,7 @@ fn grown(alloc: Global) -> Option<Vec<u8>> {
     }
 }
 
-/// Returns whether what is printed of a case is what is wanted, or where memory is refused the first part of it.
+/// Returns whether a case printed the wanted text, or a front of it if memory was refused.
 fn is_begun(case: Case, outcome: Result<u8, RunFault>, out: &[u8]) -> bool {
     let (printed, _) = parted(case.want, "Ok(");
     if outcome == Err(RunFault::Memory) {
@@ -189,7 +188,7 @@ fn is_begun(case: Case, outcome: Result<u8, RunFault>, out: &[u8]) -> bool {
     outcome == Ok(case.status) && out == printed.as_bytes()
 }
 
-/// The same of a case that is carried out.
+/// Runs a case, and returns whether it printed the wanted text, or a front of it if memory was refused.
 fn is_met(alloc: Global, case: Case) -> bool {
     let Some(mut out) = grown(alloc) else {
         return false;
@@ -204,7 +203,7 @@ fn is_met(alloc: Global, case: Case) -> bool {
     is_begun
 }
 
-/// Run with one allocation failing in turn: what is printed is what was wanted, or the first part of it.
+/// Runs with one allocation failing in turn: the printed text is the wanted one, or a front of it.
 #[test]
 fn a_growth_may_be_refused(rt: HostRuntime) {
     for place in 0..CASES {

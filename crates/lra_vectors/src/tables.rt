@@ -1,4 +1,4 @@
-//! Worked histories in tables, entry by entry: the status of each row, and what a plan of the entry has.
+//! Worked histories in tables, entry by entry: the status of each row, and the plan of each entry.
 
 ghost use Rattle.std.specs.Prelude.{◌≡◌, true, [], IfOk};
 ghost use Rattle.lra_model.specs.declared.version.Version.{Version};
@@ -17,8 +17,8 @@ use lra_tables::{Plan, Tables};
 use std::alloc::Global;
 use std::process::Abort;
 
-/// Histories, each after its header. After each entry stand the statuses of all actions, and of all members. What
-/// follows by itself from the entry before is marked by `+`.
+/// Histories, each after its header. After each entry come the statuses of all actions and all members. `+` marks an
+/// entry that follows by itself from the one before.
 const WORKED: &str = "\
 lra-journal 1 7
 1 0 enrol -> /
@@ -164,7 +164,7 @@ lra-journal 1 7
 + 1 0 end 2 Closed -> Closing Closed /
 + 1 0 end 1 Closed -> Closed Closed /";
 
-/// Adds the statuses of all actions, and of all members.
+/// Writes the statuses of all actions, and of all members.
 fn push_statuses(text: &mut String, tables: &Tables) -> Result<(), Memory> {
     for place in 0..tables.count_actions() {
         if let Some(row) = tables.action(place + 1) {
@@ -182,7 +182,7 @@ fn push_statuses(text: &mut String, tables: &Tables) -> Result<(), Memory> {
     Ok(())
 }
 
-/// Adds the journal of a worked history.
+/// Writes the journal of a worked history.
 fn push_journal(journal: &mut String, history: &str) -> Result<(), Memory> {
     for line in history.lines() {
         let (entry, _) = parted(line, " -> ");
@@ -192,7 +192,7 @@ fn push_journal(journal: &mut String, history: &str) -> Result<(), Memory> {
     Ok(())
 }
 
-/// The plan of an entry that is allowed now.
+/// Returns the plan of an entry that is allowed now.
 fn plan_of(tables: &mut Tables, entry: &Entry) -> Result<Plan, Memory>
     requires { Follows tables.old.sheet entry.now }
     ensures { tables.new.sheet ≡ tables.old.sheet }
@@ -203,12 +203,12 @@ fn plan_of(tables: &mut Tables, entry: &Entry) -> Result<Plan, Memory>
     }
 }
 
-/// Entries as text.
+/// Returns entries as text.
 fn shown(alloc: Global, entries: &[Entry]) -> Result<String, Memory> {
     format!(in alloc; "{entries:?}")
 }
 
-/// Returns what is planned of an entry that is allowed now.
+/// Returns the entries planned for an entry that is allowed now, as text.
 fn planned(alloc: Global, tables: &mut Tables, entry: &Entry) -> Result<String, Memory>
     requires { Follows tables.old.sheet entry.now }
     ensures { tables.new.sheet ≡ tables.old.sheet }
@@ -219,7 +219,7 @@ fn planned(alloc: Global, tables: &mut Tables, entry: &Entry) -> Result<String, 
     planned
 }
 
-/// Counts the first of these lines, up to one that doesn't follow by itself from the one before.
+/// Counts the lines at the front that follow by themselves from the line before.
 fn count_following(lines: &[&str]) -> usize {
     let mut count = 0usize;
     for line in lines {
@@ -231,7 +231,8 @@ fn count_following(lines: &[&str]) -> usize {
     count
 }
 
-/// Asserts that what is planned of the entry at a place is it and what follows, as the history has it.
+/// Asserts that the plan of the entry at a place is that entry and the entries that follow it by themselves in the
+/// history.
 fn assert_plan<R: Abort>(
     rt: &R,
     alloc: Global,
@@ -247,7 +248,7 @@ fn assert_plan<R: Abort>(
     assert_told(rt, "a plan", wanted.ok(), planned.as_str());
 }
 
-/// The line at a place ends with the statuses that the tables have.
+/// Asserts that the line at a place ends with the tables' statuses.
 fn assert_statuses<R: Abort>(
     rt: &R,
     alloc: Global,
@@ -262,7 +263,7 @@ fn assert_statuses<R: Abort>(
     Ok(())
 }
 
-/// Applies a history entry by entry to empty tables, and looks at each plan before and at the rows after.
+/// Applies a history to empty tables entry by entry. Checks each plan before, and the rows after.
 fn assert_rows<R: Abort>(
     rt: &R,
     alloc: Global,
@@ -296,7 +297,7 @@ fn is_sound(alloc: Global, version: Version, entries: &[Entry]) -> Result<bool, 
     }
 }
 
-/// A legal history with its statuses.
+/// Checks the plans and statuses of a legal history.
 fn assert_lines<R: Abort>(
     rt: &R,
     alloc: Global,
@@ -312,7 +313,7 @@ fn assert_lines<R: Abort>(
     looked
 }
 
-/// A history's entries, and its lines with statuses.
+/// Checks that a history's entries are legal, and checks their plans and statuses.
 fn assert_entries<R: Abort>(
     rt: &R,
     alloc: Global,
@@ -326,7 +327,7 @@ fn assert_entries<R: Abort>(
     assert_lines(rt, alloc, entries, lines.as_slice())
 }
 
-/// A history with its statuses.
+/// Checks a worked history.
 fn assert_history<R: Abort>(rt: &R, alloc: Global, history: &str) -> Result<(), JournalFault> {
     let mut journal = String::new(alloc);
     push_journal(&mut journal, history)?;

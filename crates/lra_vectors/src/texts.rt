@@ -1,14 +1,14 @@
-//! The comparison of what is told with what is wanted, and tables of both.
+//! Assertions that compare results with the wanted texts, and tables of both.
 
 use std::alloc::Global;
 use std::process::Abort;
 
-/// Returns what stands before the first such sign, and behind it: all and nothing, where there is none.
+/// Splits a row at the first `sign`. Without one it returns the whole row and an empty text.
 pub fn parted<'a>(row: &'a str, sign: &str) -> (&'a str, &'a str) {
     row.split_once(sign).unwrap_or((row, ""))
 }
 
-/// Asserts that what is told is what is wanted. Nothing is told where memory is refused.
+/// Asserts that a result is the wanted text. If memory is refused there is no result.
 pub fn assert_told<R: Abort>(rt: &R, of: &str, told: Option<String>, want: &str) {
     let text = told.as_deref().unwrap_or("nothing");
     assert!(rt;
@@ -18,13 +18,13 @@ pub fn assert_told<R: Abort>(rt: &R, of: &str, told: Option<String>, want: &str)
     drop(told);
 }
 
-/// Something that is told of texts.
+/// Function from texts to results.
 pub trait Telling {
-    /// Returns what is told of a text, or nothing where memory is refused.
+    /// Returns the result for a text, or none if memory is refused.
     fn tell(&self, alloc: Global, text: &str) -> Option<String>;
 }
 
-/// Each line is a text and what is to be told of it, with ` -> ` between.
+/// Asserts the results of rows. Each line is a text and the wanted result, with ` -> ` between.
 pub fn assert_rows<T: Telling, R: Abort + AllocGlobal>(rt: &R, telling: &T, rows: &str) {
     for row in rows.lines() {
         let (text, want) = parted(row, " -> ");

@@ -3,7 +3,7 @@ use crate::texts::assert_told;
 use lra_timers::{Agenda, Memory, pause};
 use std::alloc::Global;
 
-// Sets retries, of which some are at one moment, and one is set again.
+// Sets retries. Some have the same moment, and one is set again.
 fn set_retries(agenda: &mut Agenda) -> Result<(), Memory> {
     agenda.set_retry(7, 20)?;
     agenda.set_retry(3, 20)?;
@@ -14,7 +14,7 @@ fn set_retries(agenda: &mut Agenda) -> Result<(), Memory> {
     agenda.set_retry(2, 30)
 }
 
-// Adds the members that are due at a moment, in the order in which they come.
+// Removes the members that are due at a moment, and writes them in their order.
 fn take_due(agenda: &mut Agenda, now: u64, order: &mut String) -> Result<(), Memory> {
     for _ in 0..7u8 {
         if let Some(member) = agenda.next_retry(now) {
@@ -25,7 +25,7 @@ fn take_due(agenda: &mut Agenda, now: u64, order: &mut String) -> Result<(), Mem
     Ok(())
 }
 
-// The members that are due at a moment, in the order in which they come.
+// Returns the members that are due at a moment, in their order.
 fn due(alloc: Global, now: u64) -> Option<String> {
     let mut agenda = Agenda::new(alloc);
     let mut order = String::new(alloc);
@@ -57,7 +57,7 @@ fn the_first_moment_comes_first_and_then_the_least_number(rt: HostRuntime) {
     assert_told(&rt, "an early moment", due(rt.alloc(), 9), "");
 }
 
-// Sets a limit. Where one growth is refused, the second try has memory.
+// Sets a limit. If a growth is refused the second try has memory.
 fn set(agenda: &mut Agenda, action: u64, moment: u64) -> Result<(), Memory> {
     if agenda.set_limit(action, moment).is_err() {
         agenda.set_limit(action, moment)?;
@@ -72,7 +72,7 @@ fn make_room(agenda: &mut Agenda) -> Result<(), Memory> {
     Ok(())
 }
 
-// Whether 40 limits that were set the last one first come and go in their order.
+// Returns whether 40 limits that were set last one first come and go in their order.
 fn come_in_order(agenda: &mut Agenda) -> Result<bool, Memory> {
     make_room(agenda)?;
     for n in 0..40u64 {
@@ -98,7 +98,7 @@ fn a_refused_growth_loses_no_moment(rt: HostRuntime) {
     assert!(rt; are_in_order == Ok(true));
 }
 
-// Whether this is the pause before the kth try.
+// Returns whether this is the pause before the kth try.
 fn is_pause(base: u64, cap: u64, k: u64, want: u64) -> bool {
     k >= 1 && pause(base, cap, k) == want
 }

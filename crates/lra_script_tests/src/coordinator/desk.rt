@@ -1,4 +1,4 @@
-//! A coordinator that is given a script of commands, line by line, and takes down what comes of each.
+//! A coordinator that is given a script of commands, line by line. The answer and lines of each are written as text.
 
 ghost use Rattle.std.specs.Prelude.{◌≡◌, true};
 ghost use Rattle.lra_core.specs.Prepares.{is_suited};
@@ -15,33 +15,33 @@ use std::alloc::{AllocError, Global};
 use std::io::{self, Write};
 use std::str::from_utf8;
 
-/// The most bytes that come of a script.
+/// Most bytes of a script's text.
 const ROOM: usize = 32_768;
 
-/// The state that is to stay as it is where memory is refused, beside the entries: the statuses of the first actions
-/// and members.
+/// State that refused memory mustn't change, beside the entries: the statuses of the first actions and members.
 type Kept = [Option<Told>; 4];
 
-/// A coordinator, the errands that it gave, and what came of its commands.
+/// Coordinator, the errands that it handed out, and the text of its commands.
 #[derive(Drop)]
 struct Desk<'a> {
     alloc: Global,
     coordinator: &'a mut Coordinator,
     held: Errands,
-    /// The text that came of the commands of a script.
+    /// Text of the commands of a script, with their answers and lines.
     text: Vec<u8>,
-    /// The lines that a command would append.
+    /// Lines that a command would append.
     lines: Vec<u8>,
-    /// The lines of all entries so far.
+    /// Lines of all entries so far.
     journal: Vec<u8>,
-    /// The entries are spelled here where they are looked at.
+    /// Buffer in which the coordinator's entries are spelled, to compare them.
     spelled: Vec<u8>,
-    /// Refused memory has changed something.
+    /// Set once refused memory has changed something.
     has_changed: bool,
 }
 
-/// Gives a coordinator each command of a script, whose lines are `COMMAND -> ANSWER`, or `+ ` and a line of the
-/// journal. What came of them is the script itself, where all is as it says, and ends at a line that is none.
+/// Gives a coordinator each command of a script. A script's lines are `COMMAND -> ANSWER`, or `+ ` and a line of the
+/// journal. Returns the text of the commands: the script itself if all is as it says. The text ends at a line that is
+/// no command.
 pub fn played(alloc: Global, coordinator: &mut Coordinator, script: &str) -> Vec<u8> {
     let mut desk = Desk {
         alloc,
@@ -58,13 +58,13 @@ pub fn played(alloc: Global, coordinator: &mut Coordinator, script: &str) -> Vec
 }
 
 impl Desk<'_> {
-    /// Returns what came of the commands.
+    /// Returns the text of the commands.
     fn into_text(self) -> Vec<u8> {
         let Desk { text, .. } = self;
         text
     }
 
-    /// Makes room for what comes of a script, so that taking it down takes no memory.
+    /// Reserves room for the texts of a script, so that writing them takes no memory.
     fn make_room(&mut self) -> Result<(), AllocError> {
         self.held.make_room()?;
         self.text.reserve(ROOM)?;
@@ -73,8 +73,8 @@ impl Desk<'_> {
         self.spelled.reserve(ROOM)
     }
 
-    /// Gives each command. One that is refused memory is given again. At the end the entries are those whose lines were
-    /// taken down, or else this is what came.
+    /// Gives each command. One that is refused memory is given again. Adds a complaint if the entries at the end aren't
+    /// those whose lines were written, or if refused memory changed something.
     fn play(&mut self, script: &str) {
         if self.make_room().is_err() && self.make_room().is_err() {
             return;
@@ -100,7 +100,7 @@ impl Desk<'_> {
         Some(())
     }
 
-    /// Gives the command of a line, and takes down what comes of it.
+    /// Gives the command of a line, and writes its answer and lines.
     fn give_line(&mut self, line: &str) -> Option<()> {
         let (command, _) = line.split_once(" -> ")?;
         write!(self.text, "{command} -> ").ok()?;
@@ -128,7 +128,7 @@ impl Desk<'_> {
         self.give_by(first.parse().ok()?, words)
     }
 
-    /// Gives the command of a clerk, or one of none.
+    /// Gives the command of a clerk, or of 0 for no clerk.
     fn give_by(&mut self, by: u32, mut words: Words<'_>) -> Option<()> {
         let moment = words.number()?;
         let verb = words.next();
@@ -154,7 +154,7 @@ impl Desk<'_> {
         self.record(by, moment, ask, outcome)
     }
 
-    /// Returns what there is now that a refusal is to keep, beside the entries.
+    /// Returns the state that refused memory mustn't change, beside the entries.
     fn kept(&self) -> Kept {
         [
             self.coordinator.status(1, 1).ok(),
@@ -164,25 +164,25 @@ impl Desk<'_> {
         ]
     }
 
-    /// Returns whether the entries are those whose lines were taken down.
+    /// Returns whether the entries are those whose lines were written.
     fn has_journal(&mut self) -> bool {
         self.spelled.clear();
         spell_entries(self.coordinator, &mut self.spelled).is_ok()
             && self.spelled.as_slice() == self.journal.as_slice()
     }
 
-    /// Takes down whether refused memory has changed something.
+    /// Notes whether refused memory has changed something.
     fn look_back(&mut self, kept: Kept) {
         self.has_changed = self.has_changed || self.kept() != kept || !self.has_journal();
     }
 
-    /// Takes down an answer, and the lines that its command has appended.
+    /// Writes an answer, and the lines that its command has appended.
     fn put_answer(&mut self, answer: Result<Told, Refusal>) -> Option<()> {
         put_answer(answer, &mut self.text)?;
         self.put_lines()
     }
 
-    /// Takes down the lines that a command has appended.
+    /// Writes the lines that a command has appended.
     fn put_lines(&mut self) -> Option<()> {
         put_lines(self.lines.as_slice(), &mut self.text)?;
         self.journal.extend_from_slice(self.lines.as_slice()).ok()?;
@@ -190,7 +190,7 @@ impl Desk<'_> {
         Some(())
     }
 
-    /// Takes down the lines that a command would append, twice where memory was refused.
+    /// Keeps the lines that a command would append. It asks twice if memory was refused.
     fn look(&mut self, by: u32, moment: u64, command: &Command<'_>)
         requires { is_suited command.now ≡ true }
     {
@@ -202,7 +202,7 @@ impl Desk<'_> {
         }
     }
 
-    /// Takes down the lines that a command would append, and drops its block. Whether memory was refused.
+    /// Keeps the lines that a command would append, and drops its block. Returns whether memory was refused.
     fn is_starved(&mut self, by: u32, moment: u64, command: &Command<'_>) -> bool
         requires { is_suited command.now ≡ true }
     {
@@ -230,7 +230,7 @@ impl Desk<'_> {
         self.put_answer(answer)
     }
 
-    /// Joins a member. The addresses are read again where memory was refused.
+    /// Lets a member join. Its addresses are read again if memory was refused.
     fn join(&mut self, by: u32, moment: u64, action: u64, addresses: &str) -> Option<()> {
         let uris = uris(self.alloc, addresses)?;
         let order = Order::Join {
@@ -242,7 +242,7 @@ impl Desk<'_> {
         done
     }
 
-    /// Gives an order, twice where memory was refused.
+    /// Gives an order, twice if memory was refused.
     fn order(&mut self, by: u32, moment: u64, order: &Order<'_>) -> Option<()> {
         self.look(by, moment, &order.command());
         let kept = self.kept();
@@ -254,12 +254,12 @@ impl Desk<'_> {
         self.put_answer(answer)
     }
 
-    /// Asks what writes nothing, and takes down what is told.
+    /// Makes a query, and writes its answer.
     fn query(&mut self, query: Query) -> Option<()> {
         put_known(self.coordinator.query(query), &mut self.text)
     }
 
-    /// Asks, twice where memory was refused.
+    /// Asks for the next errand, twice if memory was refused.
     fn asked(&mut self, by: u32, moment: u64) -> Result<Option<Errand>, Refusal> {
         let kept = self.kept();
         match self.coordinator.next_ask(by, moment) {
@@ -271,7 +271,7 @@ impl Desk<'_> {
         }
     }
 
-    /// Asks, holds the errand, and takes down what it is.
+    /// Asks for the next errand, holds it, and writes what it is.
     fn ask(&mut self, by: u32, moment: u64) -> Option<()> {
         self.look(by, moment, &Command::NextAsk);
         match self.asked(by, moment) {
@@ -289,7 +289,7 @@ impl Desk<'_> {
         writeln!(self.text, "discarded").ok()
     }
 
-    /// Records what came of an errand, twice where memory was refused.
+    /// Records the outcome of an errand, twice if memory was refused.
     fn recorded(
         &mut self,
         by: u32,
@@ -307,7 +307,7 @@ impl Desk<'_> {
         }
     }
 
-    /// Records what came of an ask, and takes down the answer. An errand that is handed back stays held.
+    /// Records the outcome of an ask, and writes the answer. An errand that is handed back stays held.
     fn record(&mut self, by: u32, moment: u64, ask: u64, outcome: Outcome) -> Option<()> {
         let errand = self.held.take(ask)?;
         self.look_at_record(by, moment, &errand, outcome);
@@ -320,14 +320,14 @@ impl Desk<'_> {
         }
     }
 
-    /// Takes down the lines that a record would append.
+    /// Keeps the lines that a record would append.
     fn look_at_record(&mut self, by: u32, moment: u64, errand: &Errand, outcome: Outcome) {
         if suits(errand.kind(), outcome) {
             self.look(by, moment, &Command::Record { errand, outcome });
         }
     }
 
-    /// Takes down what an audit of the history says, as of a journal of this version.
+    /// Audits the history as that of a journal of this version, and writes the verdict.
     fn audit(&mut self, version: &str) -> Option<()> {
         let version = Version::from_name(version.as_bytes())?;
         let verdict = checked(self.alloc, version, self.coordinator.entries());
@@ -337,7 +337,7 @@ impl Desk<'_> {
     }
 }
 
-/// Takes down lines of the journal.
+/// Writes lines of the journal, each after `+ `.
 fn put_lines(lines: &[u8], text: &mut Vec<u8>) -> Option<()> {
     for line in from_utf8(lines).ok()?.lines() {
         text.extend_from_slice(b"+ ").ok()?;
@@ -347,7 +347,7 @@ fn put_lines(lines: &[u8], text: &mut Vec<u8>) -> Option<()> {
     Some(())
 }
 
-/// Returns what an audit says, made again where memory was refused.
+/// Audits entries, twice if memory was refused, and returns the verdict.
 fn checked(alloc: Global, version: Version, entries: &[Entry]) -> Result<Verdict, Memory> {
     match check(alloc, version, entries) {
         Err(_) => check(alloc, version, entries),
@@ -386,7 +386,7 @@ fn put_failed(summary: &Summary, text: &mut Vec<u8>) -> io::Result<()> {
     writeln!(text)
 }
 
-/// Records what came of an ask, where its outcome suits.
+/// Records the outcome of an ask, if the outcome suits.
 fn recorded(
     coordinator: &mut Coordinator,
     by: u32,
@@ -400,7 +400,7 @@ fn recorded(
     coordinator.record(by, moment, errand, outcome)
 }
 
-/// Gives an order by the call of its name.
+/// Gives an order by the method of its name.
 fn named(
     coordinator: &mut Coordinator,
     by: u32,

@@ -1,12 +1,11 @@
-//! Callbacks carried as steps, in pieces, and by `exchange`.
+//! Callback exchanges: as steps, in pieces, and by `exchange`.
 use crate::pieces::{Pieces, Sink};
 use crate::rows::{parted, repeated, written_out};
 use lra_courier::{CallFault, Callback, Carrying, Step};
 use lra_model::{AskKind, Direction, Outcome};
 use std::alloc::{AllocError, Global};
 
-// A response, `~` for each line's end, and what comes of it where a member was asked to complete. No byte of it is left
-// out.
+// A response, `~` for each line's end, and its outcome if a member was asked to complete. Every byte of it is needed.
 const WHOLE: &str = "\
 HTTP/1.1 200 OK~Content-Length: 9~~Completed|done
 HTTP/1.1 200 OK~Content-Length: 10~~Completing|accepted
@@ -21,14 +20,14 @@ HTTP/1.1 200 OK~Transfer-Encoding: chunked~~4~Comp~5~leted~0~~|done
 HTTP/1.1 200 OK~Transfer-Encoding: chunked~~a;x=1~Completing~0~A: b~~|accepted
 HTTP/1.1 100 x~~HTTP/1.1 103 x~A: b~~HTTP/1.1 409 x~Content-Length: 0~~|failed";
 
-// The same of responses that are whole where the stream ends.
+// As in `WHOLE`, but these responses are whole only once the stream ends.
 const ENDED: &str = "\
 HTTP/1.1 200 OK~~Completing|accepted
 HTTP/1.1 200 OK~~|done
 HTTP/1.1 409 x~~|failed
 HTTP/1.1 500 x~~Completed|silent";
 
-// The same of bytes that are none, whatever follows: the last is its fault.
+// As in `WHOLE`, but these bytes begin no response, whatever follows. The last column is the fault.
 const FAULTY: &str = "\
 HTTP/2 200 OK~|no response: bad head
 HTTP/1.1 200 OK~Transfer-Encoding: gzip~~|no response: coding not served
@@ -58,7 +57,7 @@ Connection: close\r
 \r
 ";
 
-/// The way in which a stream goes on behind its bytes.
+/// Ways in which a stream goes on after its bytes.
 #[derive(Clone, Copy)]
 enum Rest {
     Open,
@@ -66,7 +65,7 @@ enum Rest {
     Fails,
 }
 
-/// Hands out so many bytes at most.
+/// Sends at most `size` bytes of a callback exchange, and appends them to `sent`.
 fn hand_out(carrying: &mut Carrying, size: usize, sent: &mut Vec<u8>) -> Option<()> {
     let out = carrying.out();
     let count = out.len().min(size);
@@ -75,7 +74,8 @@ fn hand_out(carrying: &mut Carrying, size: usize, sent: &mut Vec<u8>) -> Option<
     Some(())
 }
 
-/// Moves the bytes in pieces of this size. Tells what it came to, or nothing where more is wanted than there is.
+/// Moves a callback exchange on with these bytes, in pieces of this size. Returns its result, or none if it wants more
+/// than there is.
 fn moved(
     carrying: &mut Carrying,
     bytes: &[u8],
@@ -107,7 +107,7 @@ fn moved(
     None
 }
 
-/// Returns what a callback comes to where these bytes come in pieces of this size, if all of the request went out.
+/// Returns the result of a callback whose response comes in pieces of this size, if the whole request was sent.
 fn carried(
     alloc: Global,
     bytes: &[u8],
@@ -123,7 +123,7 @@ fn carried(
     if whole { told } else { None }
 }
 
-/// Returns whether it tells what it came to, and the code of a final response in the bytes where that is an outcome.
+/// Returns whether an exchange reports its result, and with an outcome the code of a final response in the bytes.
 fn is_coded(
     alloc: Global,
     carrying: &Carrying,
@@ -153,7 +153,7 @@ fn is_coded(
     }
 }
 
-/// Returns what `exchange` says of these bytes, and then the end.
+/// Returns the outcome of `exchange` where these bytes come, and then the end.
 fn exchanged(alloc: Global, bytes: &[u8]) -> Outcome {
     let mut writer = Sink::new(alloc, 4096, 4096);
     let reader = Pieces {
@@ -185,7 +185,8 @@ fn is_fault(alloc: Global, told: Option<Result<Outcome, CallFault>>, fault: &str
     }
 }
 
-/// Returns whether that comes of bytes in pieces of 1, of 7 and of all, as `exchange` says, and of no fewer of them.
+/// Returns whether bytes have this outcome in pieces of 1, of 7 and as a whole, and by `exchange`, and no fewer bytes
+/// do.
 fn whole_comes_to(alloc: Global, bytes: &[u8], outcome: &str) -> bool {
     let fewer = &bytes[..bytes.len().saturating_sub(1)];
     exchanged(alloc, bytes).name() == outcome
@@ -205,7 +206,7 @@ fn whole_comes_to(alloc: Global, bytes: &[u8], outcome: &str) -> bool {
         )
 }
 
-/// The same where the stream ends with them, and not before.
+/// Returns whether bytes have this outcome once the stream ends after them, and not before.
 fn ended_comes_to(alloc: Global, bytes: &[u8], outcome: &str) -> bool {
     exchanged(alloc, bytes).name() == outcome
         && is_outcome(carried(alloc, bytes, 1, Rest::Ends), outcome)
@@ -218,7 +219,7 @@ fn ended_comes_to(alloc: Global, bytes: &[u8], outcome: &str) -> bool {
         )
 }
 
-/// Returns whether that fault comes of bytes, whatever follows.
+/// Returns whether bytes have this fault, whatever follows.
 fn is_refused(alloc: Global, bytes: &[u8], fault: &str) -> bool {
     exchanged(alloc, bytes).name() == "silent"
         && is_fault(alloc, carried(alloc, bytes, 1, Rest::Open), fault)
@@ -270,7 +271,7 @@ fn what_is_no_response_is_told_at_once(rt: HostRuntime) {
     }
 }
 
-/// A response whose body comes in so many chunks of one byte.
+/// Returns a response whose body comes in this many chunks of one byte.
 fn in_chunks(alloc: Global, count: usize) -> Result<String, AllocError> {
     let mut response = String::from_str(
         alloc,

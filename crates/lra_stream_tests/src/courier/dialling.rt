@@ -7,7 +7,7 @@ use std::fmt::Write as _;
 use std::io;
 use std::io::{Read, Write};
 
-/// A member at one socket alone, which takes so many bytes of a request and gives its reply.
+/// A member at one socket only. It accepts `room` bytes of a request and sends its reply.
 #[derive(Drop)]
 struct Member<'a> {
     socket: &'a str,
@@ -15,7 +15,7 @@ struct Member<'a> {
     reply: &'a [u8],
 }
 
-/// A connection to it.
+/// A connection to a member.
 #[derive(Drop)]
 struct Line<'a> {
     room: usize,
@@ -45,7 +45,7 @@ impl<'a> Dialler for Member<'a> {
 
     type Stream = Line<'a>;
 
-    // It is reached at its own socket alone.
+    // The member is reached only at its own socket.
     ghost gives = { λ member socket stream. IfSome stream (λ _. socket ≡ member.socket.now) };
 
     fn dial(&self, socket: &str) -> Option<Line<'a>> {
@@ -60,7 +60,7 @@ impl<'a> Dialler for Member<'a> {
     }
 }
 
-// An address, how much of a request the member takes, its reply, where `~` ends a line, and what a call tells.
+// An address, the bytes of a request that the member accepts, its reply, where `~` ends a line, and the call's result.
 const CALLS: &str = "\
 http://p.test/f|4096|HTTP/1.1 204 x~Content-Length: 0~~|done
 http://p.test:8080/f|4096|HTTP/1.1 204 x~Content-Length: 0~~|no connection
@@ -72,7 +72,7 @@ http://p.test/f|4096|HTTP/1.1 500 x~Content-Length: 0~~|silent
 http://p.test/f|4096|HTTP/1.1 20 x~Content-Length: 0~~|no response: bad head
 http://p.test/f|4096||no response: message cut short";
 
-// Takes down what a call to this address tells.
+// Writes the result of a call to this address.
 fn put_call(
     alloc: Global,
     member: Member<'_>,
@@ -85,14 +85,14 @@ fn put_call(
     }
 }
 
-// Whether that is what it tells.
+// Returns whether a call has the wanted result.
 fn tells(alloc: Global, member: Member<'_>, address: &str, wanted: &str) -> bool {
     let mut text = String::new(alloc);
     let done = put_call(alloc, member, address, &mut text);
     done.is_ok() && text.as_str() == wanted
 }
 
-// Whether the call of a row tells what the row says.
+// Returns whether the call of a written-out row has the row's result.
 fn row_tells(alloc: Global, row: &str) -> Option<bool> {
     let (address, row) = parted(row, "|");
     let (room, row) = parted(row, "|");
@@ -105,7 +105,7 @@ fn row_tells(alloc: Global, row: &str) -> Option<bool> {
     Some(tells(alloc, member, address, wanted))
 }
 
-// The same of a row as the table has it.
+// Returns whether the call of a row of the table has the row's result.
 fn call_tells(alloc: Global, row: &str) -> Option<bool> {
     let row = written_out(alloc, row);
     let told = row_tells(alloc, row.as_str());

@@ -1,4 +1,4 @@
-//! Errands of a coordinator, carried over streams in memory until the member has answered.
+//! Errands of a coordinator, exchanged over streams in memory until the member has answered.
 
 use crate::coordinator::{coordinator, record};
 use crate::rows::{parted, written_out};
@@ -8,13 +8,13 @@ use lra_model::{Outcome, Uris};
 use std::alloc::{AllocError, Global};
 use std::io::Write;
 
-/// The time that a member is left alone at most before it is asked again, in milliseconds.
+/// Longest time before a member is asked again, in milliseconds.
 const PAUSE: u64 = 1_000_000;
 
-/// A member's addresses: to compensate, to complete, and for its status.
+/// Addresses of a member: to compensate, to complete, and for its status.
 const ADDRESSES: &str = "http://p.test:9000/u http://p.test:9000/c http://p.test:9000/s";
 
-/// The text that goes out for the first ask.
+/// Request of the first ask.
 const FIRST_REQUEST: &str = "PUT /c HTTP/1.1\r
 Host: p.test:9000\r
 Long-Running-Action: http://127.0.0.1:8080/lra-coordinator/00000000-0000-8007-8000-000000000001\r
@@ -24,9 +24,8 @@ Connection: close\r
 \r
 ";
 
-/// Between `|`: a response to each ask; and behind `>` what came of the first, and for each later ask what goes out and
-/// what came of
-/// it. The bodies of the later rows are chunked: their lengths are hexadecimal digits.
+/// Before `>`: a response to each ask, between `|`. After it: the outcome of the first ask, and the request and outcome
+/// of each later ask. The bodies of the later rows are chunked: their lengths are hexadecimal digits.
 const CARRIED: &str = "\
 HTTP/1.1 202 Accepted~Content-Length: 0~~|HTTP/1.1 412 Precondition Failed~Content-Length: 0~~|HTTP/1.1 410 Gone~Content-Length: 0~~>1 accepted~GET /s HTTP/1.1~Host: p.test:9000~Long-Running-Action: $1~Long-Running-Action-Recovery: %1~Connection: close~~2 silent~PUT /c HTTP/1.1~Host: p.test:9000~Long-Running-Action: $1~Long-Running-Action-Recovery: %1~Content-Length: 0~Connection: close~~3 done~
 HTTP/1.1 200 OK~Transfer-Encoding: chunked~~9~Completed~0~~>1 done~
@@ -43,7 +42,7 @@ fn fill(alloc: Global, addresses: &str, uris: &mut Uris) -> Result<(), AllocErro
     Ok(())
 }
 
-/// A member with these addresses. Nothing, where memory is refused.
+/// Returns the URIs of a member with these addresses, or none if memory is refused.
 pub(super) fn member(alloc: Global, addresses: &str) -> Option<Uris> {
     let mut uris = Uris {
         compensate: None,
@@ -59,7 +58,7 @@ pub(super) fn member(alloc: Global, addresses: &str) -> Option<Uris> {
     Some(uris)
 }
 
-/// Joins a member to an action, and closes that.
+/// Lets a member join an action, and closes that action.
 fn close(coordinator: &mut Coordinator, member: &Uris) -> Result<(), Refusal> {
     coordinator.enrol(0)?;
     coordinator.start(1, 0, None, 0)?;
@@ -68,7 +67,7 @@ fn close(coordinator: &mut Coordinator, member: &Uris) -> Result<(), Refusal> {
     Ok(())
 }
 
-/// Carries the next errand of a coordinator, where this response comes: its number, and what came of it.
+/// Exchanges the next errand of a coordinator, whose response is given. Returns the ask's number and its outcome.
 fn carry(
     alloc: Global,
     coordinator: &mut Coordinator,
@@ -84,7 +83,7 @@ fn carry(
     record(coordinator, moment, errand, outcome).then_some((ask, outcome))
 }
 
-/// The same, and takes down the request and what came of it.
+/// Exchanges the next errand, and appends the request, the ask's number and its outcome to a text.
 fn take_down(
     alloc: Global,
     coordinator: &mut Coordinator,
@@ -99,7 +98,7 @@ fn take_down(
     write!(text, "{ask} {name}\r\n").is_ok()
 }
 
-/// Closes an action, and takes down what goes out for each ask, where these responses come, and what came of it.
+/// Closes an action and exchanges its errands, whose responses are given. Appends each request and outcome to a text.
 fn carry_all(
     alloc: Global,
     coordinator: &mut Coordinator,
@@ -120,7 +119,7 @@ fn carry_all(
     true
 }
 
-/// The same for a coordinator of its own.
+/// Runs `carry_all` at a new coordinator.
 fn carry_anew(alloc: Global, member: &Uris, responses: &str, text: &mut Vec<u8>) -> bool {
     let Some(mut coordinator) = coordinator(alloc) else {
         return false;
@@ -130,7 +129,7 @@ fn carry_anew(alloc: Global, member: &Uris, responses: &str, text: &mut Vec<u8>)
     done
 }
 
-/// Returns whether this is what is taken down behind the first request.
+/// Returns whether this is the text after the first request.
 fn come_to(alloc: Global, member: &Uris, responses: &str, wanted: &str) -> bool {
     let mut text = Vec::new(alloc);
     let done = carry_anew(alloc, member, responses, &mut text);
@@ -138,7 +137,7 @@ fn come_to(alloc: Global, member: &Uris, responses: &str, wanted: &str) -> bool 
     done && later == Some(wanted.as_bytes())
 }
 
-/// Returns whether a row's responses come to what it says.
+/// Returns whether the responses of a row have the requests and outcomes of the row.
 fn row_holds(alloc: Global, row: &str) -> bool {
     let Some(member) = member(alloc, ADDRESSES) else {
         return false;
@@ -158,13 +157,13 @@ fn a_member_is_asked_until_it_has_answered(rt: HostRuntime) {
     }
 }
 
-/// The first errand of a coordinator, whose one action is closed.
+/// Closes the only action of a coordinator, and returns the first errand.
 fn asked(coordinator: &mut Coordinator, member: &Uris) -> Result<Option<Errand>, Refusal> {
     close(coordinator, member)?;
     coordinator.next_ask(1, PAUSE)
 }
 
-/// The same of a coordinator of its own. Nothing, where memory is refused.
+/// Returns the first errand of a new coordinator, or none if memory is refused.
 fn first_errand(alloc: Global, member: &Uris) -> Option<Errand> {
     let mut coordinator = coordinator(alloc)?;
     let asked = asked(&mut coordinator, member);
@@ -172,7 +171,7 @@ fn first_errand(alloc: Global, member: &Uris) -> Option<Errand> {
     asked.ok()?
 }
 
-/// An errand to a member with these addresses. Nothing, where memory is refused.
+/// Returns an errand to a member with these addresses, or none if memory is refused.
 pub(super) fn errand_to(alloc: Global, addresses: &str) -> Option<Errand> {
     let member = member(alloc, addresses)?;
     let errand = first_errand(alloc, &member);
@@ -180,7 +179,7 @@ pub(super) fn errand_to(alloc: Global, addresses: &str) -> Option<Errand> {
     errand
 }
 
-/// Returns how much of the first request this is.
+/// Returns a word for how much of the first request this is.
 fn part(taken: &[u8]) -> &'static str {
     if taken.is_empty() {
         return "nothing";
@@ -191,7 +190,7 @@ fn part(taken: &[u8]) -> &'static str {
     "a part"
 }
 
-/// Returns what comes of an errand that the member has done. The text of the request goes to `taken`.
+/// Exchanges an errand that the member has done, and returns the outcome. The request's text goes to `taken`.
 fn exchanged_in(alloc: Global, errand: &Errand, taken: &mut Vec<u8>) -> Outcome {
     let response: &[u8] = b"HTTP/1.1 200 OK\r\nContent-Length: 9\r\n\r\nCompleted";
     if taken.reserve(1024).is_err() {
@@ -200,8 +199,8 @@ fn exchanged_in(alloc: Global, errand: &Errand, taken: &mut Vec<u8>) -> Outcome 
     exchange(alloc, response, taken, errand)
 }
 
-/// Returns how much of the request goes out for an errand that the member has done, and what comes of it: nothing, and
-/// silence, where there is no memory for that text.
+/// Exchanges an errand that the member has done. Returns how much of the request was sent, and the outcome: "nothing"
+/// and "silent" if there is no memory for the request's text.
 fn exchanged(alloc: Global, errand: &Errand) -> (&'static str, &'static str) {
     let mut taken = Vec::new(alloc);
     let outcome = exchanged_in(alloc, errand, &mut taken);
@@ -210,17 +209,17 @@ fn exchanged(alloc: Global, errand: &Errand) -> (&'static str, &'static str) {
     (sent, outcome.name())
 }
 
-/// Returns whether an exchange went well.
+/// Returns whether the whole request was sent and the outcome is done.
 fn is_done((sent, outcome): (&str, &str)) -> bool {
     sent == "all" && outcome == "done"
 }
 
-/// Returns whether an exchange is as one that was refused memory: nothing was sent, or all, and nothing came of it.
+/// Returns whether this can be an exchange that was refused memory: nothing or all was sent, and the outcome is silent.
 fn is_refused((sent, outcome): (&str, &str)) -> bool {
     sent != "a part" && outcome == "silent"
 }
 
-// Run with one growth refused in turn: the outcome is then Silent, and the same errand is carried well again.
+// Run with one growth refused in turn. The outcome is silent then, and the same errand is exchanged well again.
 #[test]
 fn a_refused_growth_is_silent(rt: HostRuntime) {
     if let Some(errand) = errand_to(rt.alloc(), ADDRESSES) {

@@ -1,4 +1,4 @@
-//! A courier over a network and a clock of our own.
+//! A courier over a network and a clock in memory.
 use super::forget;
 use crate::rows::{number, parted};
 use lra_courier::TcpCourier;
@@ -12,14 +12,14 @@ use std::time::{Clock, Duration};
 
 const RESPONSE: &[u8] = b"HTTP/1.1 204 x\r\n\r\n";
 
-/// The moment that the clock shows, what happened, and how long it takes, in seconds.
+/// Clock and network of a test. Times are in seconds.
 #[derive(Drop)]
 struct World {
     now: Cell<u64>,
-    /// The number of connections that were asked for, and the last one's port.
+    /// Number of connections that were asked for, and the port of the last one.
     connects: Cell<u64>,
     port: Cell<u16>,
-    /// So many of them fail.
+    /// Number of connections that fail: the first ones.
     failing: u64,
     connect_secs: u64,
     read_secs: u64,
@@ -42,7 +42,7 @@ impl World {
     }
 }
 
-/// The network and the clock of a world.
+/// Handle to the network and the clock of a world.
 #[derive(Clone, Copy)]
 struct Handle<'a> {
     world: &'a World,
@@ -58,7 +58,7 @@ impl Clock for Handle<'_> {
     }
 }
 
-/// A connection that gives a response byte by byte.
+/// Connection whose response comes byte by byte.
 #[derive(Drop)]
 struct Slow<'a> {
     world: &'a World,
@@ -103,7 +103,7 @@ impl AsRawFd for Slow<'_> {
     }
 }
 
-/// Nothing listens here.
+/// Listener that accepts no connection.
 #[derive(Drop)]
 struct Deaf<'a> {
     world: &'a World,
@@ -161,10 +161,10 @@ impl<'a> Net for Handle<'a> {
     }
 }
 
-/// The number of connections that fail, the seconds that each takes, and each read, the address of a call, and what
-/// comes of it: where it matters, the last port and the number of connections too. The port is the address's or 80. The
-/// limit of 30 s is one over all reads: the response comes in 18, of which the last begins once 17 are over. That of 5
-/// s is one over all addresses, of which a name has two.
+/// Number of connections that fail, seconds of each connection and of each read, address of a call, and its outcome.
+/// Where it matters, the last port and the number of connections follow. The port is the address's, or 80. The limit of
+/// 30 s is for all reads together: the response comes in 18 reads, and the last one begins after 17 of them. The limit
+/// of 5 s is for all addresses together: a name has two.
 const CALLS: &str = "\
 0 0 0 http://127.0.0.1/f -> done, port 80,
 0 0 0 http://127.0.0.1:9000/f -> done, port 9000,
@@ -182,14 +182,14 @@ const CALLS: &str = "\
 1 5 0 http://p.test/f -> silent, port 80, 1 connections
 2 1 0 http://p.test/f -> silent, port 80, 2 connections";
 
-/// Returns what comes of a call in a world.
+/// Returns the outcome of a call in a world, with the last port and the number of connections.
 fn told(alloc: Global, world: &World, address: &str) -> Result<String, AllocError> {
     let outcome = TcpCourier::new(Handle { world }, alloc).call(&forget(address));
     let (name, port, connects) = (outcome.name(), world.port.get(), world.connects.get());
     format!(in alloc; "{name}, port {port}, {connects} connections")
 }
 
-/// Returns whether what comes of it is what is wanted.
+/// Returns whether a call has the wanted result in a world.
 fn comes_to(alloc: Global, world: &World, address: &str, wanted: &str) -> bool {
     match &told(alloc, world, address) {
         Ok(told) => told.as_str().starts_with(wanted),
@@ -197,7 +197,7 @@ fn comes_to(alloc: Global, world: &World, address: &str, wanted: &str) -> bool {
     }
 }
 
-/// The same in the world of a row.
+/// Returns whether the call of a row has the row's result.
 fn row_holds(alloc: Global, row: &str) -> Option<bool> {
     let (failing, row) = parted(row, " ");
     let (connect_secs, row) = parted(row, " ");

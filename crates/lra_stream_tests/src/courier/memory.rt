@@ -1,10 +1,10 @@
-//! The outcome of a callback that is carried where a growth is refused: run with one allocation failing in turn.
+//! Callback exchanges that are refused a growth: run with one allocation failing in turn.
 use super::carrying::asked;
 use lra_courier::{Carrying, SendFault, Step};
 use lra_model::Outcome;
 use std::alloc::Global;
 
-/// Responses of each way in which a body may end: after so many bytes, with its last chunk, and with the stream.
+/// Responses for each way in which a body may end: after its length, with its last chunk, and with the stream.
 const SIZED: &[u8] = b"HTTP/1.1 200 OK\r\nContent-Length: 9\r\n\r\nCompleted";
 
 const CHUNKED: &[u8] =
@@ -12,7 +12,7 @@ const CHUNKED: &[u8] =
 
 const ENDED: &[u8] = b"HTTP/1.1 200 OK\r\n\r\nCompleted";
 
-/// A callback, made again where memory was refused.
+/// Begins a callback exchange, and tries again if memory was refused.
 fn made(alloc: Global) -> Option<Carrying> {
     match Carrying::new(alloc, &asked()) {
         Ok(carrying) => Some(carrying),
@@ -21,12 +21,12 @@ fn made(alloc: Global) -> Option<Carrying> {
     }
 }
 
-/// Returns how much may be handed out and taken, and what it came to.
+/// Returns how many bytes may be sent and accepted, and the outcome, if it is known.
 fn shown(carrying: &Carrying) -> (usize, usize, Option<Outcome>) {
     (carrying.out().len(), carrying.room(), carrying.outcome())
 }
 
-/// The next step. Where memory is refused all is as it was, and it is asked for again.
+/// Takes the next step. If memory is refused it checks that the exchange is unchanged, and tries again.
 fn next(carrying: &mut Carrying) -> Option<Step> {
     let before = shown(carrying);
     if let Ok(step) = carrying.next() {
@@ -38,7 +38,7 @@ fn next(carrying: &mut Carrying) -> Option<Step> {
     carrying.next().ok()
 }
 
-/// Takes bytes. Where memory is refused all is as it was, and they are taken again.
+/// Gives bytes to an exchange. If memory is refused it checks that the exchange is unchanged, and tries again.
 fn take(carrying: &mut Carrying, bytes: &[u8]) -> Option<bool> {
     let before = shown(carrying);
     if let Ok(taken) = carrying.take(bytes) {
@@ -50,7 +50,7 @@ fn take(carrying: &mut Carrying, bytes: &[u8]) -> Option<bool> {
     carrying.take(bytes).ok()
 }
 
-/// Returns what the callback comes to where these bytes come one by one, and then the end.
+/// Returns the outcome of an exchange whose response comes byte by byte, and then the end.
 fn heard(carrying: &mut Carrying, bytes: &[u8]) -> Option<Outcome> {
     let count = carrying.out().len();
     carrying.gone(count);

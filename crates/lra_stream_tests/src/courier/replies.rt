@@ -71,7 +71,7 @@ compensate compensation 200 [^\"Compensating\"^] -> accepted
 compensate compensation 200 [\x0cCompensating] -> done
 compensate compensation 200 [Compen sating] -> done";
 
-// The name of what a reply comes to.
+// Returns the name of a reply's outcome.
 fn outcome_of(kind: &str, direction: &str, code: &str, body: &str) -> Option<&'static str> {
     let kind = AskKind::from_name(kind.as_bytes())?;
     let direction = Direction::from_name(direction.as_bytes())?;
@@ -79,7 +79,7 @@ fn outcome_of(kind: &str, direction: &str, code: &str, body: &str) -> Option<&'s
     Some(classify(kind, direction, code, body.as_bytes()).name())
 }
 
-// Whether a row's reply comes to its outcome.
+// Returns whether a row's reply has the row's outcome.
 fn row_holds(alloc: Global, row: &str) -> bool {
     let row = written_out(alloc, row);
     let (call, reply) = parted(row.as_str(), " [");

@@ -8,7 +8,7 @@ const ACTION: &str = "http://127.0.0.1:8080/lra-coordinator/00000000-0000-8007-8
 
 const RECOVERY: &str = "http://127.0.0.1:8080/lra-recovery/00000000-0000-8007-8000-000000000001";
 
-// Kind, address, and the request, a line feed for each line's end, between `|`.
+// Kind, address, and the request, with a line feed for each line's end. `|` separates rows.
 const REQUESTS: &str = "complete http://p.test:9000/c
 PUT /c HTTP/1.1
 Host: p.test:9000
@@ -59,7 +59,7 @@ fn direction_of(kind: AskKind) -> Direction {
     }
 }
 
-// A callback at this address: one to compensate has a parent.
+// Returns a callback at this address. One to compensate has a parent.
 fn callback(kind: AskKind, address: &str) -> Callback<'_> {
     let parent_uri = match kind {
         AskKind::Compensate => Some("http://127.0.0.1:8080/parent"),
@@ -76,7 +76,8 @@ fn callback(kind: AskKind, address: &str) -> Callback<'_> {
     }
 }
 
-// Whether a writer with room for that many bytes takes these of a callback's request, and whether it goes so.
+// Returns whether a writer with room for that many bytes gets these bytes of a callback's request, and the result is
+// `end`.
 fn is_sent(
     alloc: Global,
     callback: &Callback<'_>,
@@ -91,7 +92,7 @@ fn is_sent(
     sent
 }
 
-// Whether this is a callback's request, of which a writer that fails has a front.
+// Returns whether this is a callback's request. A writer that fails has to get a front of it.
 fn is_written(alloc: Global, callback: &Callback<'_>, request: &[u8]) -> bool {
     for room in 0..request.len() {
         if !is_sent(alloc, callback, room, &request[..room], Err(SendFault::Io)) {
@@ -101,7 +102,7 @@ fn is_written(alloc: Global, callback: &Callback<'_>, request: &[u8]) -> bool {
     is_sent(alloc, callback, 4096, request, Ok(()))
 }
 
-// Whether that of a row is written for its kind and its address.
+// Returns whether the request of a row is written for its kind and its address.
 fn row_is_written(alloc: Global, row: &str) -> Option<bool> {
     let (head, request) = parted(row, "\n");
     let (kind, address) = parted(head, " ");
@@ -117,7 +118,7 @@ fn requests_are_these_bytes_or_a_front_of_them(rt: HostRuntime) {
     }
 }
 
-// Whether nothing is written to this address.
+// Returns whether nothing is written for this address, and it is refused.
 fn is_kept_back(alloc: Global, address: &str) -> bool {
     let callback = callback(AskKind::Complete, address);
     is_sent(alloc, &callback, 4096, b"", Err(SendFault::BadAddress))
@@ -136,8 +137,8 @@ fn nothing_goes_to_what_is_no_address_as_it_stands(rt: HostRuntime) {
     }
 }
 
-// What comes of a callback to complete where a reader gives a response, and how much of the request a writer takes that
-// has room for so many bytes.
+// Exchanges a callback to complete, whose response a reader gives. Returns the outcome and how many bytes of the
+// request a writer with this room gets.
 fn exchanged(alloc: Global, reader: Pieces<'_>, room: usize) -> (Outcome, usize) {
     let mut writer = Sink::new(alloc, 10, room);
     let callback = callback(AskKind::Complete, "http://p.test:9000/c");
@@ -147,13 +148,14 @@ fn exchanged(alloc: Global, reader: Pieces<'_>, room: usize) -> (Outcome, usize)
     (found, taken)
 }
 
-// Whether this comes of one where these bytes come, in pieces of that size. Then they end, or the reader fails.
+// Returns whether a callback whose response comes in pieces of this size has this outcome. Then the reader ends or
+// fails.
 fn comes_to(alloc: Global, rest: &[u8], size: usize, fails: bool, outcome: &str) -> bool {
     let (found, _) = exchanged(alloc, Pieces { rest, size, fails }, 4096);
     found.name() == outcome
 }
 
-// A response, `~` for each line's end, and what comes of it.
+// A response, `~` for each line's end, and its outcome.
 const RESPONSES: &str = "\
 HTTP/1.1 202 ~Content-Length: 0~~|accepted
 HTTP/1.1 412 Precondition~Content-Length: 0~~|silent
@@ -164,7 +166,7 @@ HTTP/1.1 200 OK~Transfer-Encoding: chunked~~b~Compensated~0~~|silent
 HTTP/1.1 200 OK~Transfer-Encoding: chunked~~2~ok~0~~|done
 HTTP/1.1 100 Continue~~HTTP/1.1 409 Conflict~Content-Length: 0~~|failed";
 
-// Whether that of a row comes to its outcome, whole and byte by byte.
+// Returns whether the response of a row has the row's outcome, whole and byte by byte.
 fn row_comes_to_outcome(alloc: Global, row: &str) -> bool {
     let row = written_out(alloc, row);
     let (response, outcome) = parted(row.as_str(), "|");
@@ -185,7 +187,7 @@ fn responses_come_to_outcomes_whatever_pieces_they_come_in(rt: HostRuntime) {
 const DONE: &str =
     "HTTP/1.1 200 OK\r\nTransfer-Encoding: chunked\r\n\r\n9\r\nCompleted\r\n0\r\n\r\n";
 
-// Whether a response that is cut is silent, where the stream ends and where it fails.
+// Returns whether a response that is cut is silent, both if the stream ends and if it fails.
 fn is_silent(alloc: Global, front: &[u8]) -> bool {
     comes_to(alloc, front, 20, false, "silent") && comes_to(alloc, front, 20, true, "silent")
 }
@@ -198,7 +200,7 @@ fn a_response_that_is_cut_is_silent(rt: HostRuntime) {
     }
 }
 
-// Whether this comes of a response to which so many interim heads lead.
+// Returns whether a response after this many interim heads has this outcome.
 fn comes_after(alloc: Global, count: usize, outcome: &str) -> bool {
     match &repeated(alloc, "HTTP/1.1 103 Early\r\n\r\n", count, DONE) {
         Ok(response) => comes_to(alloc, response.as_bytes(), 4096, false, outcome),

@@ -21,7 +21,7 @@ where
     Ok((listener, addr))
 }
 
-// Takes a connection, and answers it once the head of a request came.
+// Accepts a connection, and sends a response once the head of a request has come.
 fn answer(listener: &TcpListener, response: &str) -> io::Result<()> {
     let (mut stream, _) = listener.accept()?;
     let mut last = [0u8; 4];
@@ -35,7 +35,7 @@ fn answer(listener: &TcpListener, response: &str) -> io::Result<()> {
     stream.write_all(response.as_bytes())
 }
 
-// Addresses at a port of this host: to compensate, to complete, and for the status.
+// Returns addresses at a port of this host: to compensate, to complete, and for the status.
 fn addresses(alloc: Global, port: u16) -> String {
     let addresses = format!(in alloc;
         "http://127.0.0.1:{port}/u http://127.0.0.1:{port}/c http://127.0.0.1:{port}/s"
@@ -69,7 +69,7 @@ fn a_reply_comes_over_a_socket(rt: HostRuntime) -> Result<(), Fail> {
     Ok(())
 }
 
-// An errand to a member at a port of this host.
+// Returns an errand to a member at a port of this host.
 fn errand_at(alloc: Global, port: u16) -> Option<Errand> {
     let addresses = addresses(alloc, port);
     let errand = errand_to(alloc, addresses.as_str());

@@ -1,5 +1,5 @@
-//! The HTTP interface over a coordinator of its own, whose writer takes a part of a reply. What requests are answered
-//! is asked of the built program (`vectors/front`).
+//! The HTTP interface over a coordinator of its own, whose writer accepts a part of a reply. The replies to requests
+//! are tested on the built program (`vectors/front`).
 
 use super::comes_to;
 use crate::coordinator::coordinator;
@@ -7,7 +7,7 @@ use crate::pieces::{Pieces, Sink};
 use lra_core::Bench;
 use std::alloc::Global;
 
-/// A bench whose clerk is enrolled.
+/// Returns a bench whose clerk is enrolled.
 pub(super) fn enrolled(alloc: Global) -> Option<Bench> {
     let mut coordinator = coordinator(alloc)?;
     if coordinator.enrol(0).is_err() {
@@ -17,7 +17,7 @@ pub(super) fn enrolled(alloc: Global) -> Option<Bench> {
     Some(Bench::new(coordinator, 1))
 }
 
-/// Returns how many entries a bench has that is let go of.
+/// Drops a bench, and returns how many entries it had.
 pub(super) fn entries_of(bench: Bench) -> usize {
     let coordinator = bench.into_coordinator();
     let count = coordinator.entries().len();
@@ -27,7 +27,7 @@ pub(super) fn entries_of(bench: Bench) -> usize {
 
 const START: &str = "POST /lra-coordinator HTTP/1.1\r\nHost: 127.0.0.1:8080\r\n\r\n";
 
-/// The reply to the first start, byte for byte.
+/// Reply to the first start, byte for byte.
 pub(super) const STARTED: &str = "HTTP/1.1 201 Created\r
 Content-Type: application/json\r
 Content-Length: 84\r
@@ -36,7 +36,7 @@ Long-Running-Action: http://127.0.0.1:8080/lra-coordinator/00000000-0000-8007-80
 \r
 {\"lra\":\"http://127.0.0.1:8080/lra-coordinator/00000000-0000-8007-8000-000000000001\"}";
 
-/// Returns whether a start has this front of its reply at a bench, whose writer has room for that alone, and ends so.
+/// Returns whether the reply to a start has this front and this end, if the writer has room for that front only.
 fn has_front(alloc: Global, bench: &mut Bench, front: &[u8], end: &str) -> bool {
     let mut sink = Sink::new(alloc, 7, front.len());
     let reader = Pieces::of(START, 4096);
@@ -45,7 +45,7 @@ fn has_front(alloc: Global, bench: &mut Bench, front: &[u8], end: &str) -> bool 
     has_front
 }
 
-/// Returns whether a start stands whose writer takes this front of its reply alone, and ends so.
+/// Returns whether a start is entered, and has this end, if the writer accepts only this front of its reply.
 fn stands(alloc: Global, front: &[u8], end: &str) -> bool {
     let Some(mut bench) = enrolled(alloc) else {
         return false;

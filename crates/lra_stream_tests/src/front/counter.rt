@@ -1,4 +1,4 @@
-//! A counter at which nothing can be given, and a clock that stands still.
+//! A counter that refuses every order, and a clock that stands still.
 
 use crate::coordinator::base;
 use lra_commands::{Counter, CounterFault, Order, Session, Told};
@@ -12,7 +12,7 @@ pub(super) struct Worn {
     base: Base,
 }
 
-/// A counter at which nothing can be given.
+/// Returns a counter that refuses every order.
 pub(super) fn worn_counter(alloc: Global) -> Option<Worn> {
     let instance = Instance::new(7)?;
     let base = Base::of(base(alloc)?);
@@ -68,7 +68,7 @@ impl Session for Worn {
     }
 }
 
-/// A clock that stands still.
+/// Clock that stands still.
 #[derive(Drop)]
 pub(super) struct Still {
     pub(super) moment: u64,

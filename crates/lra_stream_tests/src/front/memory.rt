@@ -1,4 +1,4 @@
-//! The outcome of a stream where a growth is refused: run with one allocation failing in turn.
+//! Streams that are refused a growth: run with one allocation failing in turn.
 
 use super::bench::{STARTED, enrolled, entries_of};
 use crate::pieces::{Pieces, Sink};
@@ -6,12 +6,12 @@ use lra_front::{Clock, StreamEnd, serve_stream};
 use std::alloc::{AllocError, Global};
 use std::fmt::Write;
 
-/// A start with a body, and a status read of what it starts.
+/// A start with a body, and a status request for the action that it starts.
 const STREAM: &str =
     "POST /lra-coordinator HTTP/1.1\r\nHost: h\r\nContent-Length: 11\r\n\r\n{\"limit\":5}GET /lra-coordinator/00000000-0000-8007-8000-000000000001 HTTP/1.1\r\nHost: h\r\n\r\n";
 
-/// The other replies that there are to it, byte for byte: the action as it is; that there is none; and that memory was
-/// refused, in a request or in reading one.
+/// The other replies to the stream, byte for byte: the action; that there is none; and that memory was refused, in a
+/// request or in reading one.
 const FOUND: &str = "HTTP/1.1 200 OK\r
 Content-Type: application/json\r
 Content-Length: 102\r
@@ -46,11 +46,12 @@ const REPLIES: [(&str, &str); 5] = [
     ("503 close", CLOSED),
 ];
 
-/// The outcome of the stream: how many requests were read and entries are there; how it ended; and the replies.
+/// Result of the stream: requests read, entries, its end, and the codes of its replies.
 const WHOLE: &str = "2 requests, 2 entries, Done: 201 200";
 
-/// The same where a growth was refused: in making the routes or the inbox, in reading the first request, in its body or
-/// its command, in making its reply, in reading the second request, in what that asks, and in making its reply.
+/// Results of the stream if a growth is refused: in making the routes or the inbox, in reading the first request, in
+/// its body or its command, in making its reply, in reading the second request, in answering it, and in making its
+/// reply.
 const ENDS: &str = "\
 0 requests, 1 entries, Refused(Memory):
 0 requests, 1 entries, Refused(Memory): 503 close
@@ -60,7 +61,7 @@ const ENDS: &str = "\
 2 requests, 2 entries, Done: 201 503
 2 requests, 2 entries, WriteFault: 201";
 
-/// A clock that counts how often it is asked, which is once for each request that was read.
+/// Clock that counts how often it is asked. A stream asks it once for each request that it reads.
 #[derive(Drop)]
 struct Asked {
     requests: u64,
@@ -77,8 +78,8 @@ impl Clock for Asked {
     }
 }
 
-/// Serves the stream at a bench of its own. Returns how many of its requests were read, how many entries the bench has
-/// then, and how the stream ended: nothing, where memory was refused before it began.
+/// Serves the stream at a bench of its own. Returns the number of requests read, the number of the bench's entries
+/// then, and the stream's end. Returns none if memory was refused before the stream began.
 fn serve_once(alloc: Global, sink: &mut Sink) -> Option<(u64, usize, StreamEnd)> {
     let mut bench = enrolled(alloc)?;
     let mut clock = Asked { requests: 0 };
@@ -87,7 +88,7 @@ fn serve_once(alloc: Global, sink: &mut Sink) -> Option<(u64, usize, StreamEnd)>
     Some((clock.requests, entries_of(bench), end))
 }
 
-/// The code of the reply that a text begins with, and what comes after it.
+/// Returns the code of the reply that a text begins with, and the text after that reply.
 fn first_reply(text: &[u8]) -> Option<(&'static str, &[u8])> {
     for (code, reply) in REPLIES {
         if let Some(rest) = text.strip_prefix(reply.as_bytes()) {
@@ -97,7 +98,7 @@ fn first_reply(text: &[u8]) -> Option<(&'static str, &[u8])> {
     None
 }
 
-/// Takes down the codes of replies.
+/// Writes the codes of replies.
 fn put_replies(replies: &[u8], line: &mut String) -> Result<(), AllocError> {
     let mut left = replies;
     for _ in 0..3 {
@@ -112,15 +113,15 @@ fn put_replies(replies: &[u8], line: &mut String) -> Result<(), AllocError> {
     Ok(())
 }
 
-/// Takes down what the stream came to.
+/// Writes the result of a stream.
 fn put(come: (u64, usize, StreamEnd), replies: &[u8], line: &mut String) -> Result<(), AllocError> {
     let (requests, entries, end) = come;
     write!(line, "{requests} requests, {entries} entries, {end:?}:")?;
     put_replies(replies, line)
 }
 
-/// Takes down what the stream comes to: nothing where memory was refused before it began. There is room for its
-/// replies.
+/// Serves the stream and writes its result, or nothing if memory was refused before it began. Reserves room for its
+/// replies first.
 fn put_come(alloc: Global, sink: &mut Sink, line: &mut String) -> Result<(), AllocError> {
     sink.taken.reserve(4096)?;
     match serve_once(alloc, sink) {
@@ -129,7 +130,7 @@ fn put_come(alloc: Global, sink: &mut Sink, line: &mut String) -> Result<(), All
     }
 }
 
-/// The same where there is room for what is taken down.
+/// Serves the stream and writes its result. Reserves room for that text first.
 fn put_told(alloc: Global, line: &mut String) -> Result<(), AllocError> {
     line.reserve(128)?;
     let mut sink = Sink::new(alloc, 4096, 4096);
@@ -138,7 +139,7 @@ fn put_told(alloc: Global, line: &mut String) -> Result<(), AllocError> {
     done
 }
 
-/// Returns what the stream comes to: nothing where memory was refused before it began.
+/// Returns the result of the stream, or an empty text if memory was refused before it began.
 fn told(alloc: Global) -> String {
     let mut line = String::new(alloc);
     if put_told(alloc, &mut line).is_err() {
@@ -147,7 +148,7 @@ fn told(alloc: Global) -> String {
     line
 }
 
-/// Returns whether the stream came to something that it may come to where one growth is refused.
+/// Returns whether the stream may have this result if one growth is refused.
 fn is_refused(told: &str) -> bool {
     for end in ENDS.lines() {
         if told == end {
@@ -157,7 +158,7 @@ fn is_refused(told: &str) -> bool {
     told.is_empty()
 }
 
-// With one growth refused in turn each end is one of these, and the next stream is answered whole.
+// With one growth refused in turn each result is one of these, and the next stream is answered whole.
 #[test]
 fn a_refused_growth_is_answered_where_it_can_be(rt: HostRuntime) {
     let first = told(rt.alloc());

@@ -6,7 +6,7 @@ use lra_commands::Session;
 use lra_steps::serve_pieces;
 use std::alloc::Global;
 
-/// A text in pieces of this size.
+/// Cuts a text into pieces of this size.
 fn cut(alloc: Global, text: &str, size: usize) -> Option<Vec<Vec<u8>>> {
     let mut pieces = Vec::new(alloc);
     for piece in text.as_bytes().chunks(size.max(1)) {
@@ -16,7 +16,7 @@ fn cut(alloc: Global, text: &str, size: usize) -> Option<Vec<Vec<u8>>> {
     Some(pieces)
 }
 
-/// Returns whether pieces are replied so at a counter, and end so.
+/// Returns whether pieces have this reply and this end at a counter.
 fn comes_to<C: Session>(
     alloc: Global,
     counter: &mut C,
@@ -31,7 +31,7 @@ fn comes_to<C: Session>(
     }
 }
 
-/// The same of a text in pieces of this size, at a counter at which nothing can be given.
+/// Returns whether a text in pieces of this size has this reply and this end, at a counter that refuses every order.
 fn is_answered(alloc: Global, text: &str, size: usize, reply: &str, end: &str) -> Option<bool> {
     let mut counter = worn_counter(alloc)?;
     let pieces = cut(alloc, text, size)?;
@@ -41,7 +41,7 @@ fn is_answered(alloc: Global, text: &str, size: usize, reply: &str, end: &str) -
     Some(answered)
 }
 
-/// Returns whether the stream of a row is answered as the row says, in pieces of this size.
+/// Returns whether the stream of a row has the row's reply and end, in pieces of this size.
 fn row_is_answered(alloc: Global, row: &str, size: usize) -> bool {
     let row = written_out(alloc, row);
     let (stream, rest) = parted(row.as_str(), "|");

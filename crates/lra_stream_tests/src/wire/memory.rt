@@ -1,9 +1,9 @@
-//! The answers of each call where a growth is refused: run with one allocation failing in turn.
+//! Calls that are refused a growth: run with one allocation failing in turn.
 use crate::pieces::{Sink, in_pieces};
 use lra_wire::{RequestWrite, WireFault, read_request, read_response, write_request};
 use std::alloc::Global;
 
-// Whether a request is read, or memory refused.
+// Returns whether a request is read, or memory refused.
 fn request_is_read(alloc: Global) -> bool {
     let bytes: &[u8] = b"PUT /a HTTP/1.0\r\nContent-Length: 2\r\n\r\nok";
     let Ok(mut inbox) = in_pieces(alloc, bytes, 30, false) else {
@@ -21,7 +21,7 @@ fn a_refused_growth_is_memory_at_a_request(rt: HostRuntime) {
     assert!(rt; request_is_read(rt.alloc()));
 }
 
-// Whether a response is read, or memory refused.
+// Returns whether a response is read, or memory refused.
 fn response_is_read(alloc: Global) -> bool {
     let bytes: &[u8] =
         b"HTTP/1.1 200 OK\r\nTransfer-Encoding: chunked\r\n\r\n9\r\nCompleted\r\n0\r\n\r\n";
@@ -39,7 +39,7 @@ fn a_refused_growth_is_memory_at_a_response(rt: HostRuntime) {
     assert!(rt; response_is_read(rt.alloc()));
 }
 
-// Whether a request is written, or nothing of it, and memory refused.
+// Returns whether a request is written whole, or memory is refused and nothing is written.
 fn request_is_written(alloc: Global, writer: &mut Sink) -> bool {
     let request = RequestWrite {
         method: "PUT",

@@ -7,13 +7,10 @@ use std::fmt::Write;
 use std::str::from_utf8;
 use std::test::Fail;
 
-// Between `|`: whether requests or responses are read, and of a stream that ends or fails; the stream; and what each
-// call reads of
-// it: of a request the method, the target, the minor version, whether the stream is to be closed, and the body; of a
-// response the
-// code and the body. `~` stands for a line's end, and `^` for a line feed. Nothing is asked of the reader where a whole
-// message
-// has come, or it would fail.
+// Between `|`: whether requests or responses are read, and whether the stream ends or fails; the stream; and what each
+// call reads. Of a request that is the method, the target, the minor version, whether the connection is to be closed,
+// and the body; of a response the code and the body. `~` stands for a line's end, and `^` for a line feed. Once a whole
+// message has come the reader isn't asked for more: it would fail.
 const READ: &str = "\
 requests fail|~POST /lra-coordinator HTTP/1.1~host: x~Content-Length: 2~~{}^GET /a HTTP/1.0^^|POST /lra-coordinator 1 false {}^GET /a 0 true ^input or output failed^
 requests end|GET / HTTP/1.0~~|GET / 0 true ^nothing^
@@ -35,7 +32,7 @@ responses end|HTTP/1.1 200 OK~Content-Length: 4~|message cut short^message cut s
 responses end|HTTP/1.1 200 OK~Content-Length: 4~~abc|message cut short^message cut short^
 responses end|HTTP/1.1 200 OK~Transfer-Encoding: chunked~~1~x~|message cut short^message cut short^";
 
-// Takes down a request.
+// Writes a request that was read.
 fn put_request(
     read: &Result<Option<RequestRead>, WireFault>,
     text: &mut String,
@@ -52,7 +49,7 @@ fn put_request(
     }
 }
 
-// Takes down a response.
+// Writes a response that was read.
 fn put_response(
     read: &Result<ResponseRead, WireFault>,
     text: &mut String,
@@ -67,7 +64,7 @@ fn put_response(
     }
 }
 
-// Takes down what an inbox reads next.
+// Writes the next message of an inbox.
 fn put_next(
     alloc: Global,
     kind: &str,
@@ -86,7 +83,7 @@ fn put_next(
     done
 }
 
-// Takes down what an inbox reads in as many calls as there are lines wanted.
+// Writes the messages of an inbox, one for each wanted line.
 fn put_all(
     alloc: Global,
     kind: &str,
@@ -100,7 +97,7 @@ fn put_all(
     Ok(())
 }
 
-// Takes down what is read of a stream that comes in pieces of this size, and then ends or fails.
+// Writes the messages of a stream that comes in pieces of this size, and then ends or fails.
 fn put_stream(
     alloc: Global,
     how: &str,
@@ -116,14 +113,14 @@ fn put_stream(
     done
 }
 
-// Whether what is read of it is what is wanted.
+// Returns whether a stream in pieces of this size is read as the wanted messages.
 fn is_read_by(alloc: Global, how: &str, stream: &str, size: usize, wanted: &str) -> bool {
     let mut text = String::new(alloc);
     let done = put_stream(alloc, how, stream, size, wanted, &mut text);
     done.is_ok() && text.as_str() == wanted
 }
 
-// Whether a stream is read so in pieces of any size.
+// Returns whether a stream is read as the wanted messages in pieces of any size.
 fn is_read(alloc: Global, how: &str, stream: &str, wanted: &str) -> bool {
     for size in 1..stream.len() + 1 {
         if !is_read_by(alloc, how, stream, size, wanted) {
@@ -133,7 +130,7 @@ fn is_read(alloc: Global, how: &str, stream: &str, wanted: &str) -> bool {
     !stream.is_empty()
 }
 
-// The same of a row's stream.
+// Returns whether a row's stream is read as the row's messages.
 fn row_is_read(alloc: Global, row: &str) -> bool {
     let row = written_out(alloc, row);
     let (how, rest) = parted(row.as_str(), "|");

@@ -5,7 +5,7 @@ use std::test::Fail;
 
 const REQUEST: &[u8] = b"PUT /c?x=1 HTTP/1.1\r\nHost: p.test:9000\r\nContent-Length: 2\r\n\r\nok";
 
-// Whether a writer with room for so many bytes has a front of the request, and is refused where that isn't all.
+// Returns whether a writer with this room gets a front of the request, and the write fails unless that is all of it.
 fn has_front(alloc: Global, room: usize) -> bool {
     let request = RequestWrite {
         method: "PUT",
@@ -34,14 +34,14 @@ const REPLY: ReplyWrite<'static> = ReplyWrite {
     body: b"no",
 };
 
-// What is written of the reply to a writer that takes three bytes at a time.
+// Returns the text of the reply from a writer that accepts three bytes at a time.
 fn written(alloc: Global) -> Result<Vec<u8>, Fail> {
     let mut writer = Sink::new(alloc, 3, 4096);
     write_response(alloc, &mut writer, &REPLY)?;
     Ok(writer.taken)
 }
 
-// The same with a page on which something stood before.
+// Returns the text of the reply, written by way of a page that had another text before.
 fn written_in(alloc: Global) -> Result<Vec<u8>, Fail> {
     let mut writer = Sink::new(alloc, 3, 4096);
     let mut page = Vec::from_slice(alloc, b"what stood there before")?;

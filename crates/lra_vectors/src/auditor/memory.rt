@@ -1,11 +1,10 @@
-//! The answers of each call where a growth is refused: run with one allocation failing in turn. A call after it has
-//! memory.
+//! Calls that are refused a growth: run with one allocation failing in turn. A call that is made again has memory.
 use super::{NESTED, NESTED_VERDICT, journal_of, told_in_memory, told_in_pieces, told_whole};
 use crate::texts::assert_told;
 use lra_auditor::{Account, Auditor, AuditorFault, Memory};
 use std::alloc::Global;
 
-/// The nested journal.
+/// Returns the nested journal. A second try has memory.
 fn nested(alloc: Global) -> Result<String, Memory> {
     match journal_of(alloc, NESTED) {
         Ok(journal) => Ok(journal),
@@ -52,7 +51,7 @@ fn a_refused_growth_spends_an_auditor(rt: HostRuntime) {
     assert_told(&rt, NESTED, feed_again(rt.alloc()).ok(), NESTED_VERDICT);
 }
 
-/// Returns whether an auditor that was fed has an account of a legal history.
+/// Returns whether an auditor that was fed lists a legal history.
 fn is_sound(auditor: Auditor) -> Result<bool, AuditorFault> {
     match auditor.list()? {
         Account::Sound(listing) => {
@@ -63,7 +62,7 @@ fn is_sound(auditor: Auditor) -> Result<bool, AuditorFault> {
     }
 }
 
-/// Returns whether there is an account of a legal history, or else the auditor is spent since memory was refused to it.
+/// Returns whether an auditor lists the nested journal, or else is spent because memory was refused.
 fn is_listed(alloc: Global) -> Result<bool, Memory> {
     let journal = nested(alloc)?;
     let mut auditor = Auditor::new(alloc);

@@ -1,6 +1,5 @@
-//! Texts that are no line, since they lack its line feed or have another beside it. Lines, and what is none by a
-//! little,
-//! are asked of the built program (`line-` in `vectors/audit`).
+//! Texts that are no line, because they have no line feed or one too many. Other lines, and texts that are almost
+//! lines, are tested on the built program (`line-` in `vectors/audit`).
 
 use super::*;
 
@@ -14,11 +13,11 @@ fn is_line(version: Version, line: &[u8]) -> bool {
     }
 }
 
-// Each ends before a `|`.
+// Each text ends before a `|`.
 const NO_LINES: &str =
     "|1 0 enrol|1 0 enrol\n\n|\n1 0 enrol\n|1 0 enrol\n1 0 enrol\n|1 0 enrol\n |1 2 join 3 4 a\nb complete * * *\n";
 
-// The longest line, and a line feed behind it: five addresses of 512 bytes, and the greatest numbers.
+// The longest line, with a second line feed: five addresses of 512 bytes, and the greatest numbers.
 const TWICE_ENDED: &str = "\
 4294967295 18446744073709551615 join 18446744073709551615 18446744073709551615 aaaaaaaaaaaaaaaaaaaaaaaaaaaaaaa\
 aaaaaaaaaaaaaaaaaaaaaaaaaaaaaaaaaaaaaaaaaaaaaaaaaaaaaaaaaaaaaaaaaaaaaaaaaaaaaaaaaaaaaaaaaaaaaaaaaaaaaaaaaaaaaa\

@@ -2,7 +2,7 @@
 
 use super::*;
 
-// Whether a journal is read, or the words of the fault.
+// Returns "whole" if a journal is read, or the text of the fault.
 fn verdict(alloc: Global, bytes: &[u8]) -> Result<String, Memory> {
     match read_journal(alloc, bytes) {
         Ok((_, _, entries)) => {

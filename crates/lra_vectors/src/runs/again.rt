@@ -7,7 +7,7 @@ use lra_audits::RunFault;
 use lra_reports::{Sources, upgrade_twice};
 use std::alloc::Global;
 
-/// Returns what comes of an upgrade of these bytes, and those at a second reading.
+/// Upgrades a journal whose second reading gives `again`, and returns the printed text, followed by the outcome.
 fn told_of(alloc: Global, first: &[u8], again: &[u8]) -> Option<String> {
     let mut printed = Vec::new(alloc);
     let outcome = upgrade_twice(alloc, first, again, &mut printed);
@@ -32,7 +32,7 @@ impl Telling for Again {
     }
 }
 
-/// The texts that are read first, and then, with lines that end in semicolons, and what comes of them.
+/// Texts of the first and second reading, with lines that end in semicolons, and the result of the upgrade.
 const AGAIN: &str = "\
 lra-journal 1 7;1 0 enrol;|lra-journal 1 7;1 0 enrol; -> lra-journal 2 7;1 0 enrol;Ok(0)
 lra-journal 1 7;|lra-journal 1 7; -> lra-journal 2 7;Ok(0)
@@ -51,7 +51,8 @@ fn what_is_read_again_is_upgraded(rt: HostRuntime) {
     assert_rows(&rt, &Again, AGAIN);
 }
 
-/// The outcome where the second reading halts, and maybe fails, and there is so much room.
+/// Returns the outcome of an upgrade with this room, whose second reading halts, and fails at its end if `fails` is
+/// set.
 fn outcome(alloc: Global, fails: bool, room: usize) -> Result<u8, RunFault> {
     let text = "lra-journal 1 7\n1 0 enrol\n";
     let again = Halts { text, fails };

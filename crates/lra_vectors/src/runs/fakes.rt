@@ -5,7 +5,7 @@ use lra_reports::Sources;
 use std::io;
 use std::io::{ErrorKind, Read, Write};
 
-/// One text, under every name, that comes haltingly.
+/// One text, under every name, that is read haltingly.
 #[derive(Clone, Copy)]
 pub struct Halts {
     pub text: &'static str,
@@ -34,7 +34,7 @@ impl Sources for Halts {
     }
 }
 
-/// Gives its bytes one a call, with an interruption before each, and then fails or ends.
+/// Reader of one byte a call, with an interruption before each. It ends or fails after the last.
 #[derive(Drop)]
 pub struct Halting {
     left: &'static [u8],
@@ -56,7 +56,7 @@ impl Read for Halting {
     }
 }
 
-/// Takes so many bytes, and then fails.
+/// Writer that accepts `room` bytes, and then fails.
 #[derive(Drop)]
 pub struct Full {
     pub room: usize,

@@ -1,12 +1,12 @@
-//! Salvages whose input or output fails. What is salvaged is asked of the built program (`tools/vectors`).
+//! Salvages whose input or output fails. The other salvages are tested on the built program (`tools/vectors`).
 
 use super::fakes::{Full, Halts};
 use lra_audits::RunFault;
 use lra_reports::salvage_file;
 use std::alloc::Global;
 
-/// Why a salvage has no answer, of a file that is read haltingly and of which 26 bytes are sound, where there is so
-/// much room.
+/// Returns the fault of a salvage, if it has one. Its file is read haltingly and has 26 sound bytes, and its output has
+/// this room.
 fn fault(alloc: Global, fails: bool, room: usize) -> Option<RunFault> {
     let source = Halts {
         text: "lra-journal 1 7\n1 0 enrol\n1 0 sta",

@@ -1,14 +1,14 @@
-//! A chain of nested actions, cancelled at its top: each is cancelled with its parent, the outermost first, and the
-//! innermost ends first.
+//! A chain of nested actions that is cancelled at its top. Each action is cancelled with its parent, the outermost
+//! first. The innermost ends first.
 
 use super::assert_history;
 use lra_journal::JournalFault;
 use lra_model::Memory;
 
-/// The number of actions that the chain has.
+/// Number of actions of the chain.
 const DEPTH: u64 = 64;
 
-/// So many actions have this status.
+/// Writes a status `count` times.
 fn push_status(text: &mut String, count: u64, status: &str) -> Result<(), Memory> {
     for _ in 0..count {
         text.push_str(status)?;
@@ -16,7 +16,7 @@ fn push_status(text: &mut String, count: u64, status: &str) -> Result<(), Memory
     Ok(())
 }
 
-/// Ends a line: so many actions are cancelling, and so many others have another status.
+/// Ends a line with the statuses of its actions: `count` are cancelling, and `others` have another status.
 fn push_statuses(text: &mut String, count: u64, others: u64, other: &str) -> Result<(), Memory> {
     text.push_str(" -> ")?;
     push_status(text, count, "Cancelling ")?;
@@ -24,7 +24,7 @@ fn push_statuses(text: &mut String, count: u64, others: u64, other: &str) -> Res
     text.push_str("/\n")
 }
 
-/// The chain is started.
+/// Writes the starts of the chain.
 fn push_starts(text: &mut String) -> Result<(), Memory> {
     text.push_str("lra-journal 1 7\n1 0 enrol -> /\n1 0 start 1 * 0 -> Active /\n")?;
     for parent in 1..DEPTH {
@@ -35,7 +35,7 @@ fn push_starts(text: &mut String) -> Result<(), Memory> {
     Ok(())
 }
 
-/// Its top is cancelled, and all below.
+/// Writes the cancel of its top, and those of all below.
 fn push_cancels(text: &mut String) -> Result<(), Memory> {
     text.push_str("1 1 cancel 1 client")?;
     push_statuses(text, 1, DEPTH - 1, "Active ")?;

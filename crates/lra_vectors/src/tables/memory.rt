@@ -1,5 +1,5 @@
-//! Tables where a growth is refused: run with one allocation failing in turn (`rt try --test --fail-alloc N`). A call
-//! after it has memory.
+//! Tables that are refused a growth: run with one allocation failing in turn (`rt try --test --fail-alloc N`). A call
+//! that is made again has memory.
 
 ghost use Rattle.std.specs.Prelude.{◌≡◌, true, OnOk, IfOk, []};
 ghost use Rattle.lra_model.specs.declared.version.Version.{Version};
@@ -14,8 +14,8 @@ use lra_tables::Tables;
 use std::alloc::{AllocError, Global};
 use std::process::Abort;
 
-/// Every deed: members of an action and of one nested in it, one that leaves, one that is completed without being
-/// asked, and one that only hears of the end.
+/// Every deed: members of an action and of one nested in it, one that leaves, one that is completed without an ask, and
+/// one that is only notified of the end.
 const JOURNAL: &str = "\
 lra-journal 2 7
 1 0 enrol
@@ -47,7 +47,7 @@ lra-journal 2 7
 2 111 end 3 Cancelled
 ";
 
-/// The entries of the journal.
+/// Returns the version and the entries of the journal.
 fn entries_of(alloc: Global) -> Result<(Version, Vec<Entry>), Memory> {
     match read_journal(alloc, JOURNAL.as_bytes()) {
         Ok((version, _, entries)) => Ok((version, entries)),
@@ -55,7 +55,7 @@ fn entries_of(alloc: Global) -> Result<(Version, Vec<Entry>), Memory> {
     }
 }
 
-/// The entries of the journal. Where that is refused, the second try has memory.
+/// Returns the version and the entries of the journal. If memory is refused the second try has it.
 fn entries_again(alloc: Global) -> Result<(Version, Vec<Entry>), Memory> {
     match entries_of(alloc) {
         Ok(read) => Ok(read),
@@ -131,13 +131,13 @@ fn are_same(left: &Tables, right: &Tables) -> bool {
     are_same_counts(left, right)
 }
 
-/// Two tables have the same rows.
+/// Asserts that two tables have the same rows.
 fn assert_same<R: Abort>(rt: &R, left: &Tables, right: &Tables) {
     assert!(rt; are_same(left, right));
 }
 
-/// Applies an entry to tables beside others of the same history: where that is refused they are as before, and it isn't
-/// the second time.
+/// Applies an entry to tables. If memory is refused it checks that the rows are those of the others still, and tries
+/// again: the second try has memory.
 fn apply<R: Abort>(
     rt: &R,
     tables: &mut Tables,
@@ -154,7 +154,7 @@ fn apply<R: Abort>(
     Ok(())
 }
 
-/// Applies an entry to the tables that others are compared with.
+/// Applies an entry to the tables that others are compared with. If memory is refused the second try has it.
 fn follow(tables: &mut Tables, entry: &Entry) -> Result<(), Memory>
     requires { Follows tables.old.sheet entry.now }
     ensures { OnOk result (tables.new.sheet ≡ sheet_after entry.now tables.old.sheet) }
@@ -165,7 +165,7 @@ fn follow(tables: &mut Tables, entry: &Entry) -> Result<(), Memory>
     Ok(())
 }
 
-/// Returns whether there is memory to plan an entry. The plan is dropped.
+/// Returns whether there is memory to plan an entry. Drops the plan.
 fn is_planned(tables: &mut Tables, entry: &Entry) -> bool
     requires { Follows tables.old.sheet entry.now }
     ensures { tables.new.sheet ≡ tables.old.sheet }
@@ -179,7 +179,7 @@ fn is_planned(tables: &mut Tables, entry: &Entry) -> bool
     }
 }
 
-/// Plans an entry: where that is refused the rows are as before, and it isn't the second time.
+/// Plans an entry, and checks that the rows are unchanged. If memory is refused the second try has it.
 fn plan<R: Abort>(rt: &R, tables: &mut Tables, others: &Tables, entry: &Entry)
     requires { Follows tables.old.sheet entry.now }
     ensures { tables.new.sheet ≡ tables.old.sheet }
@@ -193,7 +193,7 @@ fn plan<R: Abort>(rt: &R, tables: &mut Tables, others: &Tables, entry: &Entry)
     }
 }
 
-/// Plans and applies each entry of a history to empty tables, beside others.
+/// Plans and applies each entry of a history to empty tables, and compares these with others.
 fn fill<R: Abort>(
     rt: &R,
     tables: &mut Tables,
@@ -225,7 +225,7 @@ fn fill_empty<R: Abort>(rt: &R, alloc: Global, entries: &[Entry]) -> Result<(), 
     filled
 }
 
-/// Returns whether the entries are a legal history. Where memory for that is refused, the second try has it.
+/// Returns whether the entries are a legal history. If memory is refused the second try has it.
 fn is_sound_again(alloc: Global, version: Version, entries: &[Entry]) -> Result<bool, Memory>
     ensures { IfOk result (λ sound. sound ≡ is_legal version is_address entries.now) }
 {
