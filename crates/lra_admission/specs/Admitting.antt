@@ -3,8 +3,8 @@ use Rattle.std.specs.Prelude.{ℕ, ◌==◌, Bool, true, false, not, if◌then�
 use Rattle.std.specs.Prelude.{option_map, option_and_then}
 use Rattle.std.specs.Option.{option_map_or}
 use Rattle.lra_wire.specs.Request.{Fields}
-use Rattle.lra_front.specs.declared.denial.Denial.{Denial}
-use Rattle.lra_front.specs.declared.denial.Denial.TheVariants as denial
+use Rattle.lra_front.specs.declared.api_error.ApiError.{ApiError}
+use Rattle.lra_front.specs.declared.api_error.ApiError.TheVariants as api_error
 use Rattle.lra_admission.specs.declared.latest.Admission.{Admission}
 use Rattle.lra_admission.specs.Keys.{digests_of, is_known, secret_in}
 use Rattle.lra_admission.specs.Names.{is_own_host, is_own_origin}
@@ -41,10 +41,10 @@ has_origin names origin = option_map_or (is_own_origin names) origin true
 
 -- why a request with these fields isn't let in, if it isn't (this project's choice): first its key is checked, then, if
 -- there are names, its host and its origin
-abbrev pub denial_of : Rules → Fields → Option Denial
-denial_of rules fields =
-    if lacks_key rules.keys fields.authorization then Some denial.WrongKey
+abbrev pub api_error_of : Rules → Fields → Option ApiError
+api_error_of rules fields =
+    if lacks_key rules.keys fields.authorization then Some api_error.WrongKey
     else if length rules.names == 0 then None
-    else if not (has_host rules.names fields.host) then Some denial.WrongHost
-    else if not (has_origin rules.names fields.origin) then Some denial.WrongOrigin
+    else if not (has_host rules.names fields.host) then Some api_error.WrongHost
+    else if not (has_origin rules.names fields.origin) then Some api_error.WrongOrigin
     else None

@@ -1,10 +1,10 @@
 -- Handler that gets only the requests that are let in.
 use Rattle.std.specs.Prelude.{◌≡◌, ℕ, is_some, None, MatchOption}
 use Rattle.lra_wire.specs.Request.{Request}
-use Rattle.lra_front.specs.declared.denial.Denial.{Denial}
+use Rattle.lra_front.specs.declared.api_error.ApiError.{ApiError}
 use Rattle.lra_front.specs.declared.answer.Answer.TheVariants as answer
-use Rattle.lra_steps.specs.declared.responder.Answered.{Answered}
-use Rattle.lra_admission.specs.Admitting.{Rules, denial_of}
+use Rattle.lra_steps.specs.declared.handler.Answered.{Answered}
+use Rattle.lra_admission.specs.Admitting.{Rules, api_error_of}
 
 -- the handler's state, and the keys and names in force
 pub record Guard (S : Type 0) : Type 0 where
@@ -12,7 +12,7 @@ pub record Guard (S : Type 0) : Type 0 where
   pub rules : Rules
 
 -- the request is answered with the API error, and nothing was done, so that the answer waits for no sync
-pub record Denies {S : Type 0} (before : S) (answered : Answered) (after : S) (d : Denial) : Type 0 where
+pub record Denies {S : Type 0} (before : S) (answered : Answered) (after : S) (d : ApiError) : Type 0 where
   pub answer : answered.answer ≡ answer.Denied d
   pub position : answered.position ≡ None
   pub unchanged : after ≡ before
@@ -22,7 +22,7 @@ pub record Denies {S : Type 0} (before : S) (answered : Answered) (after : S) (d
 pub record Responds {S : Type 0} (looks : Rules → Rules → Type 0) (responds : S → ℕ → Request → Answered → S → Type 0)
     (before : Guard S) (moment : ℕ) (request : Request) (answered : Answered) (after : Guard S) : Type 0 where
   pub looked : looks before.rules after.rules
-  pub done : MatchOption (denial_of after.rules request.fields)
+  pub done : MatchOption (api_error_of after.rules request.fields)
       (responds before.inner moment request answered after.inner)
       (Denies before.inner answered after.inner)
 

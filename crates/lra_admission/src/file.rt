@@ -18,7 +18,7 @@ const LONGEST: u32 = 65_536;
 
 /// Fingerprint of a file, which shows that the file of a name is another, or has changed.
 #[derive(Clone, Copy, Debug, PartialEq, Eq)]
-pub struct Print {
+pub struct FileStamp {
     pub device: u64,
     pub node: u64,
     pub length: u64,
@@ -31,16 +31,16 @@ pub struct Print {
 /// it.
 pub trait KeyFiles {
     /// Returns the fingerprint of the file of a name, if there is such a file.
-    fn print(&self, path: &str) -> Option<Print>;
+    fn stamp(&self, path: &str) -> Option<FileStamp>;
 
     /// Reads the keys of a file, which nobody but its owner may read or write.
     fn read_keys(&self, alloc: Global, path: &str) -> Result<Keys, KeysFault>;
 }
 
 impl<R: Files<File = File>> KeyFiles for R {
-    fn print(&self, path: &str) -> Option<Print> {
+    fn stamp(&self, path: &str) -> Option<FileStamp> {
         match fs::metadata(self, path) {
-            Ok(about) if about.is_file() => Some(Print {
+            Ok(about) if about.is_file() => Some(FileStamp {
                 device: about.dev(),
                 node: about.ino(),
                 length: about.len(),

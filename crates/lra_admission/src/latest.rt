@@ -6,7 +6,7 @@ ghost use Rattle.lra_admission.specs.Admitting as spec;
 
 use crate::keys::{Keys, secret_in};
 use crate::names::{Name, is_own_host, is_own_origin};
-use lra_front::Denial;
+use lra_front::ApiError;
 use lra_wire::RequestFields;
 
 /// Rules by which requests are let in.
@@ -65,30 +65,30 @@ fn has_origin(names: &[Name], origin: &Option<Vec<u8>>) -> bool
 impl Admission<'_> {
     ghost use Rattle.std.specs.Prelude.{◌≡◌};
     ghost use Rattle.lra_wire.specs.Request.{what_fields};
-    ghost use Rattle.lra_admission.specs.Admitting.{rules_of, denial_of};
+    ghost use Rattle.lra_admission.specs.Admitting.{rules_of, api_error_of};
 
     /// Returns why a request with these fields isn't let in, or nothing if it is.
-    pub fn denial(self, fields: &RequestFields) -> Option<Denial>
-        ensures { result ≡ denial_of (rules_of self.entry) (what_fields fields.now) }
+    pub fn api_error(self, fields: &RequestFields) -> Option<ApiError>
+        ensures { result ≡ api_error_of (rules_of self.entry) (what_fields fields.now) }
     {
         if lacks_key(self.keys, &fields.authorization) {
-            return Some(Denial::WrongKey);
+            return Some(ApiError::WrongKey);
         }
         if self.names.is_empty() {
             return None;
         }
         if !has_host(self.names, &fields.host) {
-            return Some(Denial::WrongHost);
+            return Some(ApiError::WrongHost);
         }
         if !has_origin(self.names, &fields.origin) {
-            return Some(Denial::WrongOrigin);
+            return Some(ApiError::WrongOrigin);
         }
         None
     }
 }
 
 /// Source that reports the rules in force.
-pub trait Latest {
+pub trait KeySource {
     ghost use Rattle.std.specs.Prelude.{◌≡◌};
     ghost use Rattle.lra_admission.specs.Admitting.{Rules, rules_of};
 

@@ -1,10 +1,10 @@
 //! Callbacks to members that answer, and to members that don't.
 
 use crate::members::{listen, serve, serve_all, socket_at};
-use crate::setting::{Held, Ready, errands, no_bells};
-use lra_callbacks::{Callbacks, Names, Patience, Quota, Share, bell};
+use crate::setting::{Held, Ready, errands, no_wakers};
+use lra_callbacks::{Callbacks, Quota, SharedDnsCache, TimeOuts, WorkerQuota, waker};
 use lra_clocks::{SystemClock, milliseconds};
-use lra_courier::Carriage;
+use lra_courier::CallbackPool;
 use lra_model::Outcome;
 use lra_outcomes::{Outcomes, Reply, put_words};
 use lra_rules::Rules;
@@ -18,7 +18,7 @@ use std::thread::{Threads, join};
 use std::time::{Clock, Duration, Instant};
 
 /// Time-outs of a callback.
-pub const PATIENCE: Patience = Patience {
+pub const TIME_OUTS: TimeOuts = TimeOuts {
     connect: 5_000,
     reply: 30_000,
 };
@@ -70,10 +70,10 @@ fn reply_in<R: Wait>(rt: &R, alloc: Global, outcomes: &Outcomes) -> Option<Reply
 }
 
 /// Gives errands to a callback pool, as far as it has memory for them.
-pub fn take_all<C: Carriage>(carriage: &mut C, errands: Vec<Held>) {
+pub fn take_all<C: CallbackPool>(callback_pool: &mut C, errands: Vec<Held>) {
     for held in errands {
         if let Some(errand) = held.take() {
-            if let Err(errand) = carriage.take(errand, 1) {
+            if let Err(errand) = callback_pool.take(errand, 1) {
                 errand.discard();
             }
         }
@@ -81,9 +81,9 @@ pub fn take_all<C: Carriage>(carriage: &mut C, errands: Vec<Held>) {
 }
 
 /// Counts the errands that have an outcome.
-fn count_done<C: Carriage>(carriage: &mut C, count: &mut Count) {
+fn count_done<C: CallbackPool>(callback_pool: &mut C, count: &mut Count) {
     for _ in 0..u64::MAX {
-        let Some((errand, outcome)) = carriage.done() else {
+        let Some((errand, outcome)) = callback_pool.done() else {
             return;
         };
         errand.discard();
@@ -96,9 +96,9 @@ fn count_done<C: Carriage>(carriage: &mut C, count: &mut Count) {
 }
 
 /// Runs a callback pool until this many errands have an outcome, or that time has passed.
-pub fn carry_within<R: Clock, C: Carriage>(
+pub fn carry_within<R: Clock, C: CallbackPool>(
     rt: &R,
-    carriage: &mut C,
+    callback_pool: &mut C,
     wanted: u64,
     time: Duration,
 ) -> Count {
@@ -111,8 +111,8 @@ pub fn carry_within<R: Clock, C: Carriage>(
         return count;
     };
     for _ in 0..u64::MAX {
-        carriage.carry(None);
-        count_done(carriage, &mut count);
+        callback_pool.carry(None);
+        count_done(callback_pool, &mut count);
         let passed = start.elapsed(rt).unwrap_or(Duration::MAX);
         if count.all() >= wanted || passed > time {
             break;
@@ -125,18 +125,18 @@ pub fn carry_within<R: Clock, C: Carriage>(
 fn carry<R: Wait + Net + Clock>(
     rt: &R,
     alloc: Global,
-    names: &Names,
+    names: &SharedDnsCache,
     rules: &Rules,
     held: Vec<Held>,
     wanted: u64,
-    patience: Patience,
+    time_outs: TimeOuts,
 ) -> Count {
     let mut count = Count {
         done: 0,
         other: 0,
         reply: None,
     };
-    let Ok((poll, _bell)) = bell(rt) else {
+    let Ok((poll, _waker)) = waker(rt) else {
         return count;
     };
     let Some(group) = Ready::up_to(u64::MAX) else {
@@ -144,10 +144,10 @@ fn carry<R: Wait + Net + Clock>(
     };
     let (under_way, least_pause) = (AtomicU64::new(0), AtomicU64::new(0));
     let outcomes = Outcomes::new(alloc);
-    let share = Share::of(1, patience);
+    let worker_quota = WorkerQuota::of(1, time_outs);
     let clock = SystemClock::new(rt, 0);
     let quota = Quota::new(alloc, 1_024, 64);
-    let Some(bells) = no_bells(alloc) else {
+    let Some(wakers) = no_wakers(alloc) else {
         return count;
     };
     let made = Callbacks::new(
@@ -159,11 +159,11 @@ fn carry<R: Wait + Net + Clock>(
         rules,
         poll,
         &quota,
-        share,
+        worker_quota,
         &under_way,
         &least_pause,
         clock,
-        &bells,
+        &wakers,
         0,
         &outcomes,
     );
@@ -191,17 +191,17 @@ pub fn carry_under<R>(
     rules: &Rules,
     held: Vec<Held>,
     wanted: u64,
-    patience: Patience,
+    time_outs: TimeOuts,
 ) -> Count
 where
     R: Wait + Clock + Threads + Net<Listener = TcpListener, Stream = TcpStream> + Sync,
 {
-    let names = Names::new(alloc);
-    let bells: [Waker; 0] = [];
+    let names = SharedDnsCache::new(alloc);
+    let wakers: [Waker; 0] = [];
     let (count, _) = join(
         rt,
-        || carry(rt, alloc, &names, rules, held, wanted, patience),
-        || names.run(rt, &bells),
+        || carry(rt, alloc, &names, rules, held, wanted, time_outs),
+        || names.run(rt, &wakers),
     );
     count
 }
@@ -212,7 +212,7 @@ where
     R: Wait + Clock + Threads + Net<Listener = TcpListener, Stream = TcpStream> + Sync,
 {
     let rules = Rules::none(alloc);
-    let count = carry_under(rt, alloc, &rules, held, wanted, PATIENCE);
+    let count = carry_under(rt, alloc, &rules, held, wanted, TIME_OUTS);
     drop(rules);
     count
 }
@@ -365,11 +365,11 @@ where
     let (listener, port) = listen(rt).ok()?;
     let held = errands_at(alloc, (port, 1), (port, 0))?;
     let rules = Rules::none(alloc);
-    let patience = Patience {
+    let time_outs = TimeOuts {
         connect: 5_000,
         reply: 800,
     };
-    let count = carry_under(rt, alloc, &rules, held, 1, patience);
+    let count = carry_under(rt, alloc, &rules, held, 1, time_outs);
     drop(rules);
     drop(listener);
     Some(count)
@@ -383,14 +383,14 @@ fn a_member_answers_too_late(rt: HostRuntime) {
 
 /// Returns how long callbacks wait with nothing under way. Something is due in `millis` milliseconds, if that is given.
 fn rested<R: Wait + Net + Clock>(rt: &R, alloc: Global, millis: Option<u64>) -> Option<Duration> {
-    let (poll, _bell) = bell(rt).ok()?;
+    let (poll, _waker) = waker(rt).ok()?;
     let group = Ready::up_to(u64::MAX)?;
-    let names = Names::new(alloc);
+    let names = SharedDnsCache::new(alloc);
     let rules = Rules::none(alloc);
     let (under_way, least_pause) = (AtomicU64::new(0), AtomicU64::new(0));
     let quota = Quota::new(alloc, 1_024, 64);
-    let bells = no_bells(alloc)?;
-    let share = Share::of(1, PATIENCE);
+    let wakers = no_wakers(alloc)?;
+    let worker_quota = WorkerQuota::of(1, TIME_OUTS);
     let clock = SystemClock::new(rt, 0);
     let outcomes = Outcomes::new(alloc);
     let made = Callbacks::new(
@@ -402,11 +402,11 @@ fn rested<R: Wait + Net + Clock>(rt: &R, alloc: Global, millis: Option<u64>) -> 
         &rules,
         poll,
         &quota,
-        share,
+        worker_quota,
         &under_way,
         &least_pause,
         clock,
-        &bells,
+        &wakers,
         0,
         &outcomes,
     );
@@ -419,14 +419,14 @@ fn rested<R: Wait + Net + Clock>(rt: &R, alloc: Global, millis: Option<u64>) -> 
 }
 
 /// Returns how long an idle callback pool takes for one iteration.
-fn rest_of<R: Clock, C: Carriage>(
+fn rest_of<R: Clock, C: CallbackPool>(
     rt: &R,
-    carriage: &mut C,
+    callback_pool: &mut C,
     millis: Option<u64>,
 ) -> Option<Duration> {
     let now = milliseconds(rt)?;
     let start = Instant::now(rt).ok()?;
-    carriage.carry(millis.map(|millis| now.saturating_add(millis)));
+    callback_pool.carry(millis.map(|millis| now.saturating_add(millis)));
     start.elapsed(rt).ok()
 }
 

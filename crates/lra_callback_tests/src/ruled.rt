@@ -1,6 +1,6 @@
 //! Members that the rules allow, and others.
 
-use crate::callbacks::{Count, DONE, PATIENCE, carry_under, errands_at};
+use crate::callbacks::{Count, DONE, TIME_OUTS, carry_under, errands_at};
 use crate::members::{listen, serve_all};
 use lra_rules::{Rule, Rules};
 use std::alloc::Global;
@@ -27,7 +27,7 @@ where
     let rules = rules_of(alloc, rule)?;
     let (count, _) = join(
         rt,
-        || carry_under(rt, alloc, &rules, held, 2, PATIENCE),
+        || carry_under(rt, alloc, &rules, held, 2, TIME_OUTS),
         || serve_all(&listener, DONE, answered),
     );
     drop(rules);

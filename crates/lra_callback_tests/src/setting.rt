@@ -4,7 +4,7 @@ ghost use Rattle.std.specs.Prelude.{◌≡◌, IfSome, true};
 ghost use Rattle.lra_ids.specs.Addresses.{is_base};
 
 use lra_core::{Coordinator, Errand, Instance, Limits, Refusal};
-use lra_durable::{SyncGroup, Unkept};
+use lra_durable::{SyncFault, SyncGroup};
 use lra_ids::{Address, address};
 use lra_model::Uris;
 use mio::Waker;
@@ -41,7 +41,7 @@ impl SyncGroup for Ready {
         _rt: &R,
         instance: Instance,
         length: u64,
-    ) -> Result<Option<u64>, Unkept> {
+    ) -> Result<Option<u64>, SyncFault> {
         let kept = self.length.load(Ordering::SeqCst);
         let is_own = instance.number() == self.instance.number();
         if is_own && kept >= length {
@@ -56,7 +56,7 @@ impl SyncGroup for Ready {
         rt: &R,
         instance: Instance,
         length: u64,
-    ) -> Result<Option<u64>, Unkept> {
+    ) -> Result<Option<u64>, SyncFault> {
         self.kept(rt, instance, length)
     }
 
@@ -70,7 +70,7 @@ impl SyncGroup for Ready {
 }
 
 /// Returns no wakers.
-pub fn no_bells(alloc: Global) -> Option<Arc<Vec<Waker>>> {
+pub fn no_wakers(alloc: Global) -> Option<Arc<Vec<Waker>>> {
     Arc::new(alloc, Vec::new(alloc)).ok()
 }
 

@@ -1,11 +1,11 @@
 //! Callback workers that share one quota.
 
-use crate::callbacks::{DONE, PATIENCE, carry_within, errands_at, take_all};
+use crate::callbacks::{DONE, TIME_OUTS, carry_within, errands_at, take_all};
 use crate::members::{listen, serve_all};
 use crate::setting::{Held, Ready};
-use lra_callbacks::{Callbacks, Names, Quota, Share, bell};
+use lra_callbacks::{Callbacks, Quota, SharedDnsCache, WorkerQuota, waker};
 use lra_clocks::SystemClock;
-use lra_courier::Carriage;
+use lra_courier::CallbackPool;
 use lra_outcomes::Outcomes;
 use lra_rules::Rules;
 use mio::{Poll, Waker};
@@ -20,10 +20,10 @@ use std::time::{Clock, Duration};
 #[derive(Drop)]
 struct Ground {
     group: Ready,
-    names: Names,
+    names: SharedDnsCache,
     rules: Rules,
     quota: Quota,
-    bells: Arc<Vec<Waker>>,
+    wakers: Arc<Vec<Waker>>,
     under_way: AtomicU64,
     least_pause: AtomicU64,
     outcomes: Outcomes,
@@ -40,14 +40,14 @@ struct Told {
 
 impl Ground {
     /// Returns a state whose quota is `most` in all, and `each` for a host.
-    fn new(alloc: Global, bells: Vec<Waker>, most: u32, each: u32) -> Option<Ground> {
-        let bells = Arc::new(alloc, bells).ok()?;
+    fn new(alloc: Global, wakers: Vec<Waker>, most: u32, each: u32) -> Option<Ground> {
+        let wakers = Arc::new(alloc, wakers).ok()?;
         Some(Ground {
             group: Ready::up_to(u64::MAX)?,
-            names: Names::new(alloc),
+            names: SharedDnsCache::new(alloc),
             rules: Rules::none(alloc),
             quota: Quota::new(alloc, most, each),
-            bells,
+            wakers,
             under_way: AtomicU64::new(0),
             least_pause: AtomicU64::new(0),
             outcomes: Outcomes::new(alloc),
@@ -71,11 +71,11 @@ impl Ground {
             &self.rules,
             poll,
             &self.quota,
-            Share::of(1, PATIENCE),
+            WorkerQuota::of(1, TIME_OUTS),
             &self.under_way,
             &self.least_pause,
             SystemClock::new(rt, 0),
-            &self.bells,
+            &self.wakers,
             place,
             &self.outcomes,
         );
@@ -84,16 +84,16 @@ impl Ground {
 }
 
 /// Gives one of the errands to a callback pool.
-fn take_one<C: Carriage>(alloc: Global, carriage: &mut C, held: &mut Vec<Held>) {
+fn take_one<C: CallbackPool>(alloc: Global, callback_pool: &mut C, held: &mut Vec<Held>) {
     if let Some(one) = held.pop() {
         let mut errands = Vec::new(alloc);
         let _ = errands.push(one);
-        take_all(carriage, errands);
+        take_all(callback_pool, errands);
     }
 }
 
 /// Runs an errand by each of both to one host, which answers only once the second has waited.
-fn carry_both<R: Clock, C: Carriage>(
+fn carry_both<R: Clock, C: CallbackPool>(
     rt: &R,
     alloc: Global,
     first: &mut C,
@@ -147,12 +147,12 @@ fn told_at<R: Wait + Net + Clock>(
     ends: bool,
     answers: &AtomicU64,
 ) -> Option<Told> {
-    let (first_poll, first_bell) = bell(rt).ok()?;
-    let (second_poll, second_bell) = bell(rt).ok()?;
-    let mut bells = Vec::new(alloc);
-    bells.push(first_bell).ok()?;
-    bells.push(second_bell).ok()?;
-    let ground = Ground::new(alloc, bells, 8, 1)?;
+    let (first_poll, first_waker) = waker(rt).ok()?;
+    let (second_poll, second_waker) = waker(rt).ok()?;
+    let mut wakers = Vec::new(alloc);
+    wakers.push(first_waker).ok()?;
+    wakers.push(second_waker).ok()?;
+    let ground = Ground::new(alloc, wakers, 8, 1)?;
     let mut held = errands_at(alloc, (port, 2), (port, 0))?;
     let mut first = ground.callbacks(rt, alloc, first_poll, 0)?;
     let Some(mut second) = ground.callbacks(rt, alloc, second_poll, 1) else {

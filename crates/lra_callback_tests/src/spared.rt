@@ -1,11 +1,11 @@
 //! Members that were silent, and are asked again only after a while.
 
-use crate::callbacks::{DONE, PATIENCE, carry_within, take_all};
+use crate::callbacks::{DONE, TIME_OUTS, carry_within, take_all};
 use crate::members::{listen, serve_all, socket_at};
-use crate::setting::{End, Held, Ready, errand, no_bells};
-use lra_callbacks::{Callbacks, Names, Quota, Share, bell};
+use crate::setting::{End, Held, Ready, errand, no_wakers};
+use lra_callbacks::{Callbacks, Quota, SharedDnsCache, WorkerQuota, waker};
 use lra_clocks::SystemClock;
-use lra_courier::Carriage;
+use lra_courier::CallbackPool;
 use lra_outcomes::Outcomes;
 use lra_rules::Rules;
 use std::alloc::Global;
@@ -29,17 +29,17 @@ struct Twice {
 }
 
 /// Runs an errand, and returns the time until it has an outcome, if that takes at most three seconds.
-fn passed<R: Clock, C: Carriage>(
+fn passed<R: Clock, C: CallbackPool>(
     rt: &R,
     alloc: Global,
-    carriage: &mut C,
+    callback_pool: &mut C,
     errand: Held,
 ) -> Option<Duration> {
     let mut errands = Vec::new(alloc);
     errands.push(errand).ok()?;
     let start = Instant::now(rt).ok()?;
-    take_all(carriage, errands);
-    let count = carry_within(rt, carriage, 1, Duration::from_secs(3));
+    take_all(callback_pool, errands);
+    let count = carry_within(rt, callback_pool, 1, Duration::from_secs(3));
     if count.all() == 1 {
         start.elapsed(rt).ok()
     } else {
@@ -48,30 +48,30 @@ fn passed<R: Clock, C: Carriage>(
 }
 
 /// Returns the time of the second errand's outcome, measured once the first has one.
-fn passed_again<R: Clock, C: Carriage>(
+fn passed_again<R: Clock, C: CallbackPool>(
     rt: &R,
     alloc: Global,
-    carriage: &mut C,
+    callback_pool: &mut C,
     twice: Twice,
 ) -> Option<Duration> {
     let socket = socket_at(alloc, "127.0.0.1", twice.port);
     let first = errand(alloc, socket.as_str(), End::Close);
     let second = errand(alloc, socket.as_str(), twice.end);
     drop(socket);
-    passed(rt, alloc, carriage, first?)?;
-    passed(rt, alloc, carriage, second?)
+    passed(rt, alloc, callback_pool, first?)?;
+    passed(rt, alloc, callback_pool, second?)
 }
 
 /// Runs `passed_again` with callbacks of its own.
 fn asked_twice<R: Wait + Net + Clock>(rt: &R, alloc: Global, twice: Twice) -> Option<Duration> {
-    let (poll, _bell) = bell(rt).ok()?;
+    let (poll, _waker) = waker(rt).ok()?;
     let group = Ready::up_to(u64::MAX)?;
-    let names = Names::new(alloc);
+    let names = SharedDnsCache::new(alloc);
     let rules = Rules::none(alloc);
     let (under_way, least_pause) = (AtomicU64::new(0), AtomicU64::new(twice.least_pause));
     let quota = Quota::new(alloc, 1_024, 64);
-    let bells = no_bells(alloc)?;
-    let share = Share::of(1, PATIENCE);
+    let wakers = no_wakers(alloc)?;
+    let worker_quota = WorkerQuota::of(1, TIME_OUTS);
     let clock = SystemClock::new(rt, twice.office);
     let outcomes = Outcomes::new(alloc);
     let made = Callbacks::new(
@@ -83,11 +83,11 @@ fn asked_twice<R: Wait + Net + Clock>(rt: &R, alloc: Global, twice: Twice) -> Op
         &rules,
         poll,
         &quota,
-        share,
+        worker_quota,
         &under_way,
         &least_pause,
         clock,
-        &bells,
+        &wakers,
         0,
         &outcomes,
     );

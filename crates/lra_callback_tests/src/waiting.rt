@@ -1,11 +1,11 @@
 //! A callback that waits for its own journal.
 
-use crate::callbacks::{PATIENCE, carry_within};
+use crate::callbacks::{TIME_OUTS, carry_within};
 use crate::members::{listen, socket_at};
-use crate::setting::{End, Ready, errand, no_bells};
-use lra_callbacks::{Callbacks, Names, Quota, Share, bell};
+use crate::setting::{End, Ready, errand, no_wakers};
+use lra_callbacks::{Callbacks, Quota, SharedDnsCache, WorkerQuota, waker};
 use lra_clocks::SystemClock;
-use lra_courier::Carriage;
+use lra_courier::CallbackPool;
 use lra_ids::Instance;
 use lra_outcomes::Outcomes;
 use lra_rules::Rules;
@@ -19,20 +19,24 @@ use std::time::{Clock, Duration};
 const POSITION: u64 = 5;
 
 /// Returns how many errands have an outcome while the journal is a byte too short, and how many once it is long enough.
-fn come_of<R: Clock, C: Carriage>(rt: &R, carriage: &mut C, length: &AtomicU64) -> (u64, u64) {
+fn come_of<R: Clock, C: CallbackPool>(
+    rt: &R,
+    callback_pool: &mut C,
+    length: &AtomicU64,
+) -> (u64, u64) {
     length.store(POSITION - 1, Ordering::SeqCst);
-    let early = carry_within(rt, carriage, 1, Duration::from_millis(300));
+    let early = carry_within(rt, callback_pool, 1, Duration::from_millis(300));
     length.store(POSITION, Ordering::SeqCst);
-    let late = carry_within(rt, carriage, 1, Duration::from_millis(900));
+    let late = carry_within(rt, callback_pool, 1, Duration::from_millis(900));
     (early.all(), late.all())
 }
 
 /// Gives the errand of a member at a port to a callback pool.
-fn take<C: Carriage>(alloc: Global, carriage: &mut C, port: u16) -> Option<()> {
+fn take<C: CallbackPool>(alloc: Global, callback_pool: &mut C, port: u16) -> Option<()> {
     let socket = socket_at(alloc, "127.0.0.1", port);
     let held = errand(alloc, socket.as_str(), End::Close);
     drop(socket);
-    if let Err(errand) = carriage.take(held?.take()?, POSITION) {
+    if let Err(errand) = callback_pool.take(held?.take()?, POSITION) {
         errand.discard();
         return None;
     }
@@ -47,13 +51,13 @@ where
 {
     let (listener, port) = listen(rt).ok()?;
     drop(listener);
-    let (poll, _bell) = bell(rt).ok()?;
+    let (poll, _waker) = waker(rt).ok()?;
     let group = Ready::up_to(0)?;
-    let names = Names::new(alloc);
+    let names = SharedDnsCache::new(alloc);
     let rules = Rules::none(alloc);
     let (under_way, least_pause) = (AtomicU64::new(0), AtomicU64::new(0));
     let quota = Quota::new(alloc, 1_024, 64);
-    let bells = no_bells(alloc)?;
+    let wakers = no_wakers(alloc)?;
     let outcomes = Outcomes::new(alloc);
     let made = Callbacks::new(
         rt,
@@ -64,11 +68,11 @@ where
         &rules,
         poll,
         &quota,
-        Share::of(1, PATIENCE),
+        WorkerQuota::of(1, TIME_OUTS),
         &under_way,
         &least_pause,
         SystemClock::new(rt, 0),
-        &bells,
+        &wakers,
         0,
         &outcomes,
     );

@@ -1,2 +1,2 @@
-pub mod Coming
+pub mod ResponseParse
 pub mod Slots

@@ -6,7 +6,7 @@ use Rattle.std.specs.Option.{ForSome, option_and_then}
 use Rattle.std.proofs.lemmas.Option.{same_Some}
 use Rattle.lra_model.specs.declared.asks.Outcome.{Outcome}
 use Rattle.std.proofs.lemmas.Bool.{eqb-true, eqb-false}
-use Rattle.lra_courier.specs.Carriages.{Handed, Gains, AreSame}
+use Rattle.lra_courier.specs.CallbackPools.{Handed, Gains, AreSame}
 use Rattle.lra_callbacks.specs.Held.{errand_at}
 use Rattle.lra_commands.specs.Errands.{Asking}
 

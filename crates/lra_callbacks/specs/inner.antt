@@ -4,4 +4,4 @@ pub mod Ends
 pub mod Quota
 pub mod Replies
 pub mod Resting
-pub mod Silences
+pub mod SilentMembers

@@ -12,7 +12,7 @@ ghost use Rattle.lra_callbacks.specs.inner.Ends.{Replies};
 use crate::pumping::{Moved, pump};
 use crate::replies::{End, reply_of};
 use lra_core::Errand;
-use lra_courier::{Callback, Carrying, socket_text};
+use lra_courier::{Callback, CallbackExchange, socket_text};
 use lra_durable::SyncGroup;
 use lra_model::{Instance, Memory, Outcome};
 use lra_outcomes::Reply;
@@ -29,7 +29,7 @@ pub(crate) struct Held {
 
 impl Model for Held {
     ghost use Rattle.std.specs.Prelude.{Option, option_map};
-    ghost use Rattle.lra_courier.specs.Carriages.{Handed};
+    ghost use Rattle.lra_courier.specs.CallbackPools.{Handed};
 
     ghost Value = { Option Handed };
 
@@ -97,24 +97,24 @@ pub(crate) enum Leave {
 /// Callback that may be sent, and the number of bytes of the journal that were durable when it began.
 #[derive(Drop)]
 pub(crate) struct Flight {
-    carrying: Carrying,
+    callback_exchange: CallbackExchange,
     kept: u64,
 }
 
 /// Returns the callback of an errand, and the host and port that it asks. Returns `None` if the errand has no address
 /// or memory is refused.
-fn callback_of(alloc: Global, errand: &Errand) -> Option<(Carrying, String)>
+fn callback_of(alloc: Global, errand: &Errand) -> Option<(CallbackExchange, String)>
     ensures { IfSome result (λ made. Goes made.0 made.1 errand.now) }
 {
     let callback = Callback::of(errand);
     let Ok(to) = callback.to(alloc) else {
         return None;
     };
-    let Ok(carrying) = Carrying::at(alloc, &to, &callback) else {
+    let Ok(callback_exchange) = CallbackExchange::at(alloc, &to, &callback) else {
         return None;
     };
     match socket_text(alloc, &to) {
-        Ok(socket) => Some((carrying, socket)),
+        Ok(socket) => Some((callback_exchange, socket)),
         Err(_) => None,
     }
 }
@@ -128,7 +128,7 @@ pub(crate) struct Attempt<G: SyncGroup> {
     flight: Option<Flight>,
     group: PhantomData<G>,
     ghost leave: { ForSome flight (λ f. ForSome errand (λ h. MayLeave (G.keeps instance) h.1 f.kept)) },
-    ghost own: { ForSome flight (λ f. ForSome errand (λ h. IsFor f.carrying h.0)) },
+    ghost own: { ForSome flight (λ f. ForSome errand (λ h. IsFor f.callback_exchange h.0)) },
 }
 
 impl<G: SyncGroup> Attempt<G> {
@@ -161,7 +161,7 @@ impl<G: SyncGroup> Attempt<G> {
 
     /// Returns the callback of the errand, and the host and port that it asks. Returns `None` if the errand has no
     /// address or memory is refused.
-    fn callback(&self, alloc: Global) -> Option<(Carrying, String)>
+    fn callback(&self, alloc: Global) -> Option<(CallbackExchange, String)>
         ensures { IfSome result (λ made. ForSome self.now.errand (λ h. Goes made.0 made.1 h.0)) }
     {
         match self.errand() {
@@ -185,8 +185,11 @@ impl<G: SyncGroup> Attempt<G> {
             return Leave::Later;
         };
         match self.callback(alloc) {
-            Some((carrying, socket)) => {
-                self.flight = Some(Flight { carrying, kept });
+            Some((callback_exchange, socket)) => {
+                self.flight = Some(Flight {
+                    callback_exchange,
+                    kept,
+                });
                 Leave::Now(socket)
             }
             None => Leave::Never,
@@ -199,7 +202,7 @@ impl<G: SyncGroup> Attempt<G> {
         ensures leave { self.old.flight ≡ None → stream.new ≡ stream.old }
     {
         match &mut self.flight {
-            Some(flight) => pump(&mut flight.carrying, stream, buffer),
+            Some(flight) => pump(&mut flight.callback_exchange, stream, buffer),
             None => Moved::Ended,
         }
     }
@@ -207,13 +210,16 @@ impl<G: SyncGroup> Attempt<G> {
     /// Returns the outcome of the callback: silence if it has none.
     fn outcome(&self) -> Outcome
         ensures may { IfSome self.now.errand (λ h. MayCome (G.keeps self.now.instance) h.1 h.0.ask h.0.kind result) }
-        ensures told { ForSome self.now.flight (λ f. result ≡ outcome_of f.carrying) }
+        ensures told { ForSome self.now.flight (λ f. result ≡ outcome_of f.callback_exchange) }
     {
         let Some(flight) = &self.flight else {
             return Outcome::Silent;
         };
-        flight.carrying.carried();
-        flight.carrying.outcome().unwrap_or(Outcome::Silent)
+        flight.callback_exchange.carried();
+        flight
+            .callback_exchange
+            .outcome()
+            .unwrap_or(Outcome::Silent)
     }
 
     /// Returns the reply that is reported for this end of the callback, or `None` if the callback brought its member
@@ -223,8 +229,8 @@ impl<G: SyncGroup> Attempt<G> {
     {
         match &self.flight {
             Some(flight) => {
-                let code = flight.carrying.code()?;
-                Ok(reply_of(end, flight.carrying.told(), code))
+                let code = flight.callback_exchange.code()?;
+                Ok(reply_of(end, flight.callback_exchange.told(), code))
             }
             None => Ok(reply_of(end, None, None)),
         }
@@ -237,7 +243,7 @@ impl<G: SyncGroup> Attempt<G> {
         // durable up to its own position.
         ensures came { IfSome result (λ came. ForSome self.errand
             (λ h. MayCome (G.keeps self.instance) h.1 came.0.ask came.0.kind came.1)) }
-        ensures told { IfSome result (λ came. ForSome self.flight (λ f. came.1 ≡ outcome_of f.carrying)) }
+        ensures told { IfSome result (λ came. ForSome self.flight (λ f. came.1 ≡ outcome_of f.callback_exchange)) }
     {
         let outcome = self.outcome();
         let Attempt { errand, .. } = self;

@@ -15,7 +15,7 @@ use crate::attempt::{Attempt, Leave};
 use crate::hosts::Target;
 use crate::pumping::Moved;
 use crate::replies::{End, end_of};
-use crate::share::Patience;
+use crate::worker_quota::TimeOuts;
 use lra_core::Errand;
 use lra_durable::SyncGroup;
 use lra_model::{Instance, Memory, Outcome};
@@ -108,7 +108,8 @@ impl<G: SyncGroup> Call<G> {
         ensures errand { option_map (λ came. came.0) result ≡ option_map (λ handed. handed.0) self.attempt.errand }
         ensures came { IfSome result (λ came. ForSome self.attempt.errand
             (λ h. MayCome (G.keeps self.attempt.instance) h.1 came.0.ask came.0.kind came.1)) }
-        ensures told { IfSome result (λ came. ForSome self.attempt.flight (λ f. came.1 ≡ outcome_of f.carrying)) }
+        ensures told { IfSome result
+            (λ came. ForSome self.attempt.flight (λ f. came.1 ≡ outcome_of f.callback_exchange)) }
     {
         let Call { attempt, .. } = self;
         attempt.finish()
@@ -143,7 +144,7 @@ impl<G: SyncGroup> Call<G> {
     }
 
     /// Directs the call to a host, and notes the moment at which it begins to connect.
-    pub(crate) fn set_out(&mut self, host: usize, now: u64)
+    pub(crate) fn open_socket(&mut self, host: usize, now: u64)
         ensures { self.new.attempt.errand ≡ self.old.attempt.errand }
     {
         self.host = host;
@@ -194,19 +195,19 @@ impl<G: SyncGroup> Call<G> {
     }
 
     /// Closes its socket. Returns whether it had one.
-    pub(crate) fn hang_up(&mut self) -> bool
+    pub(crate) fn close_socket(&mut self) -> bool
         ensures { self.new.attempt.errand ≡ self.old.attempt.errand }
     {
         self.stream.take().is_some()
     }
 
     /// Closes its socket, since a time limit has passed. Returns whether it had one.
-    pub(crate) fn give_up(&mut self, patience: Patience) -> bool
+    pub(crate) fn give_up(&mut self, time_outs: TimeOuts) -> bool
         ensures errand { self.new.attempt.errand ≡ self.old.attempt.errand }
-        ensures end { self.new.end ≡ End.TimedOut (limit_of self.old.is_connected patience) }
+        ensures end { self.new.end ≡ End.TimedOut (limit_of self.old.is_connected time_outs) }
     {
-        let limit = limit_of(self.is_connected, patience);
-        let had_socket = self.hang_up();
+        let limit = limit_of(self.is_connected, time_outs);
+        let had_socket = self.close_socket();
         self.end = End::TimedOut { limit };
         had_socket
     }
@@ -259,13 +260,13 @@ fn dial<R: Net>(rt: &R, rules: &Rules, to: Target<'_>) -> Result<TcpStream, End>
 }
 
 /// Returns the time limit of a callback that has passed: that to connect, or that for the whole reply.
-fn limit_of(is_connected: bool, patience: Patience) -> u64
-    ensures { result ≡ limit_of is_connected patience }
+fn limit_of(is_connected: bool, time_outs: TimeOuts) -> u64
+    ensures { result ≡ limit_of is_connected time_outs }
 {
     if is_connected {
-        patience.reply
+        time_outs.reply
     } else {
-        patience.connect
+        time_outs.connect
     }
 }
 

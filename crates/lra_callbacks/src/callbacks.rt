@@ -1,22 +1,22 @@
 //! All callbacks of one callback worker.
 
 ghost use Rattle.std.specs.Prelude.{◌≡◌, ℕ, [], IfOk, IfSome, IfNone};
-ghost use Rattle.lra_courier.specs.Carriages.{Gains, AreSame};
+ghost use Rattle.lra_courier.specs.CallbackPools.{Gains, AreSame};
 ghost use Rattle.lra_callbacks.specs.Outcomes.{OfGroup};
 ghost use Rattle.lra_callbacks.specs.Held.{errand_at};
 
 use crate::attempt::Leave;
 use crate::call::{Call, Seen};
 use crate::hosts::Next;
-use crate::names::Names;
+use crate::names::SharedDnsCache;
 use crate::quota::Quota;
 use crate::resting::{SHORT_REST_MS, rest_before, rest_for};
-use crate::share::Share;
+use crate::socket_set::{SocketSet, wake_workers};
 use crate::sparing::Sparing;
-use crate::traffic::{Traffic, ring};
+use crate::worker_quota::WorkerQuota;
 use lra_clocks::{Clock, SystemClock};
 use lra_core::Errand;
-use lra_courier::Carriage;
+use lra_courier::CallbackPool;
 use lra_durable::SyncGroup;
 use lra_model::{Instance, Outcome};
 use lra_outcomes::{Outcomes, is_telling};
@@ -46,23 +46,23 @@ pub struct Callbacks<'a, R, G: SyncGroup> {
     group: &'a G,
     /// Instance of the journal that has the asks.
     instance: Instance,
-    names: &'a Names,
+    names: &'a SharedDnsCache,
     /// Rules for the addresses of members.
     rules: &'a Rules,
     /// Quota of callbacks that go out at once, for all callback workers.
     quota: &'a Quota,
-    share: Share,
+    worker_quota: WorkerQuota,
     /// Number of callbacks under way, for others to see.
     under_way: &'a AtomicU64,
     calls: Slab<Call<G>>,
-    traffic: Traffic,
+    socket_set: SocketSet,
     sparing: Sparing<'a>,
     /// Moment at which it polled its office last.
     looked: u64,
     /// The office's clock.
     clock: SystemClock<'a, R>,
     /// Wakers of all callback workers.
-    bells: &'a Arc<Vec<Waker>>,
+    wakers: &'a Arc<Vec<Waker>>,
     /// Moment at which it woke them last, by the office's clock.
     rang: u64,
     /// Outcomes of the members' last callbacks, for others to see.
@@ -70,26 +70,26 @@ pub struct Callbacks<'a, R, G: SyncGroup> {
 }
 
 /// Resumes the callbacks whose wait has ended at a moment.
-fn go_on(sparing: &mut Sparing<'_>, traffic: &mut Traffic, now: u64) {
+fn go_on(sparing: &mut Sparing<'_>, socket_set: &mut SocketSet, now: u64) {
     for _ in 0..u64::MAX {
         let Some(key) = sparing.release(now) else {
             return;
         };
-        traffic.go_on(key);
+        socket_set.go_on(key);
     }
 }
 
 /// Notes the outcome of an errand, if there is one, while silent members are put in back-off.
 fn note<R: time::Clock>(
     rt: &R,
-    traffic: &mut Traffic,
+    socket_set: &mut SocketSet,
     sparing: &mut Sparing<'_>,
     came: &Option<(Errand, Outcome)>,
 ) {
     if let Some((errand, outcome)) = came
         && sparing.is_on()
     {
-        sparing.note(errand, *outcome, traffic.moment(rt));
+        sparing.note(errand, *outcome, socket_set.moment(rt));
     }
 }
 
@@ -116,7 +116,7 @@ fn tell_of<R: Wait + time::Clock, G: SyncGroup>(
 impl<'a, R, G: SyncGroup> Model for Callbacks<'a, R, G> {
     ghost use Rattle.std.specs.Prelude.{List, Option, map};
     ghost use Rattle.std.specs.Option.{option_and_then};
-    ghost use Rattle.lra_courier.specs.Carriages.{Handed};
+    ghost use Rattle.lra_courier.specs.CallbackPools.{Handed};
 
     ghost Value = { List (Option Handed) };
 
@@ -126,7 +126,8 @@ impl<'a, R, G: SyncGroup> Model for Callbacks<'a, R, G> {
 impl<'a, R: Wait + Net + time::Clock, G: SyncGroup> Callbacks<'a, R, G> {
     /// Makes the callbacks of one worker; none is under way. Returns the poll if memory is refused.
     ///
-    /// `poll` is one that [`bell`](crate::bell) made. `bells` are the wakers of all callback workers; the worker's own
+    /// `poll` is one that [`waker`](crate::waker) made. `wakers` are the wakers of all callback workers; the worker's
+    /// own
     /// is at `place`. A callback is sent once the quota, which all workers share, gives a permit. An address that the
     /// rules don't allow isn't connected to: the callback is silent. The number of callbacks under way is stored in
     /// `under_way` whenever an errand is accepted or done; callbacks in back-off don't count.
@@ -141,25 +142,25 @@ impl<'a, R: Wait + Net + time::Clock, G: SyncGroup> Callbacks<'a, R, G> {
         alloc: Global,
         group: &'a G,
         instance: Instance,
-        names: &'a Names,
+        names: &'a SharedDnsCache,
         rules: &'a Rules,
         poll: Poll,
         quota: &'a Quota,
-        share: Share,
+        worker_quota: WorkerQuota,
         under_way: &'a AtomicU64,
         least_pause: &'a AtomicU64,
         clock: SystemClock<'a, R>,
-        bells: &'a Arc<Vec<Waker>>,
+        wakers: &'a Arc<Vec<Waker>>,
         place: usize,
         outcomes: &'a Outcomes,
     ) -> Result<Callbacks<'a, R, G>, Poll>
         ensures { IfOk result (λ made. made ≡ []) }
     {
-        let Some(worker) = quota.join(rt, alloc, bells, place) else {
+        let Some(worker) = quota.join(rt, alloc, wakers, place) else {
             return Err(poll);
         };
-        let traffic = match Traffic::new(alloc, poll, worker) {
-            Ok(traffic) => traffic,
+        let socket_set = match SocketSet::new(alloc, poll, worker) {
+            Ok(socket_set) => socket_set,
             Err(poll) => {
                 quota.part(rt, worker);
                 return Err(poll);
@@ -173,14 +174,14 @@ impl<'a, R: Wait + Net + time::Clock, G: SyncGroup> Callbacks<'a, R, G> {
             names,
             rules,
             quota,
-            share,
+            worker_quota,
             under_way,
             calls: Slab::new(alloc),
-            traffic,
+            socket_set,
             sparing: Sparing::new(alloc, least_pause),
             looked: 0,
             clock,
-            bells,
+            wakers,
             rang: 0,
             outcomes,
         })
@@ -196,21 +197,21 @@ impl<'a, R: Wait + Net + time::Clock, G: SyncGroup> Callbacks<'a, R, G> {
             names: _,
             rules: _,
             quota,
-            share: _,
+            worker_quota: _,
             under_way: _,
             calls,
-            mut traffic,
+            mut socket_set,
             sparing,
             looked: _,
             clock: _,
-            bells: _,
+            wakers: _,
             rang: _,
             outcomes: _,
         } = self;
         drop(calls);
         drop(sparing);
-        traffic.hosts.part(rt, quota);
-        drop(traffic);
+        socket_set.hosts.part(rt, quota);
+        drop(socket_set);
     }
 
     /// Resumes the callbacks whose back-off has ended.
@@ -220,8 +221,8 @@ impl<'a, R: Wait + Net + time::Clock, G: SyncGroup> Callbacks<'a, R, G> {
         if self.sparing.count() == 0 {
             return;
         }
-        let now = self.traffic.moment(self.rt);
-        go_on(&mut self.sparing, &mut self.traffic, now);
+        let now = self.socket_set.moment(self.rt);
+        go_on(&mut self.sparing, &mut self.socket_set, now);
         self.tell();
     }
 
@@ -240,7 +241,7 @@ impl<'a, R: Wait + Net + time::Clock, G: SyncGroup> Callbacks<'a, R, G> {
         if !is_given_up && !self.sparing.is_on() {
             return false;
         }
-        let now = self.traffic.moment(self.rt);
+        let now = self.socket_set.moment(self.rt);
         let is_held = call.is_kept(self.rt, self.group, self.instance)
             && if is_given_up {
                 self.sparing.holds_until(key, u64::MAX)
@@ -254,24 +255,24 @@ impl<'a, R: Wait + Net + time::Clock, G: SyncGroup> Callbacks<'a, R, G> {
     }
 
     /// Resumes callbacks after their back-off, and queues the callbacks for their hosts whose positions are durable.
-    fn depart_all(&mut self)
+    fn launch_all(&mut self)
         ensures { self.new ≡ self.old }
     {
         self.go_on_all();
-        for _ in 0..self.traffic.unkept.len() {
-            let Some(key) = self.traffic.unkept.front().copied() else {
+        for _ in 0..self.socket_set.awaiting_sync.len() {
+            let Some(key) = self.socket_set.awaiting_sync.front().copied() else {
                 return;
             };
-            if !self.depart(key) {
+            if !self.launch(key) {
                 return;
             }
-            self.traffic.unkept.pop_front();
+            self.socket_set.awaiting_sync.pop_front();
         }
     }
 
     /// Queues a call for the end of its back-off, or for its host, if the journal is durable up to its position.
     /// Returns whether the call no longer waits for the sync.
-    fn depart(&mut self, key: usize) -> bool
+    fn launch(&mut self, key: usize) -> bool
         ensures { self.new ≡ self.old }
     {
         if self.holds(key) {
@@ -282,8 +283,8 @@ impl<'a, R: Wait + Net + time::Clock, G: SyncGroup> Callbacks<'a, R, G> {
         };
         match call.begin(self.rt, self.alloc, self.group) {
             Leave::Later => return false,
-            Leave::Never => self.traffic.end(key),
-            Leave::Now(socket) => self.traffic.enlist(key, socket),
+            Leave::Never => self.socket_set.end(key),
+            Leave::Now(socket) => self.socket_set.enlist(key, socket),
         }
         true
     }
@@ -292,7 +293,7 @@ impl<'a, R: Wait + Net + time::Clock, G: SyncGroup> Callbacks<'a, R, G> {
     fn settle(&mut self)
         ensures { self.new ≡ self.old }
     {
-        let Some(key) = self.traffic.unkept.back().copied() else {
+        let Some(key) = self.socket_set.awaiting_sync.back().copied() else {
             return;
         };
         if let Some(call) = self.calls.get(key) {
@@ -306,9 +307,9 @@ impl<'a, R: Wait + Net + time::Clock, G: SyncGroup> Callbacks<'a, R, G> {
         ensures { self.new ≡ self.old }
     {
         for _ in 0..u64::MAX {
-            self.traffic.hosts.take_calls(self.rt, self.quota);
+            self.socket_set.hosts.take_calls(self.rt, self.quota);
             match self
-                .traffic
+                .socket_set
                 .hosts
                 .next(self.rt, self.names, self.quota, now)
             {
@@ -324,11 +325,11 @@ impl<'a, R: Wait + Net + time::Clock, G: SyncGroup> Callbacks<'a, R, G> {
         ensures { self.new ≡ self.old }
     {
         let Some(call) = self.calls.get_mut(key) else {
-            self.traffic.end(key);
+            self.socket_set.end(key);
             return;
         };
         call.miss();
-        self.traffic.end(key);
+        self.socket_set.end(key);
     }
 
     /// Starts a call to a host that has a permit for it.
@@ -336,16 +337,13 @@ impl<'a, R: Wait + Net + time::Clock, G: SyncGroup> Callbacks<'a, R, G> {
         ensures { self.new ≡ self.old }
     {
         let Some(call) = self.calls.get_mut(key) else {
-            self.traffic.hosts.leave(self.rt, self.quota, host);
+            self.socket_set.hosts.leave(self.rt, self.quota, host);
             return;
         };
-        call.set_out(host, now);
-        if !self
-            .traffic
-            .allow(key, now.saturating_add(self.share.patience.connect))
-        {
-            self.traffic.close(self.rt, self.quota, key, host);
-            self.traffic.end(key);
+        call.open_socket(host, now);
+        if !self.socket_set.allow(key, now.saturating_add(self.worker_quota.time_outs.connect)) {
+            self.socket_set.close(self.rt, self.quota, key, host);
+            self.socket_set.end(key);
             return;
         }
         self.connect(key);
@@ -370,11 +368,17 @@ impl<'a, R: Wait + Net + time::Clock, G: SyncGroup> Callbacks<'a, R, G> {
         let Some(call) = self.calls.get_mut(key) else {
             return true;
         };
-        match self.traffic.hosts.target(call.host(), call.tried()) {
-            Some(to) => call.connect(self.rt, self.traffic.poll.registry(), self.rules, key, to),
+        match self.socket_set.hosts.target(call.host(), call.tried()) {
+            Some(to) => call.connect(
+                self.rt,
+                self.socket_set.poll.registry(),
+                self.rules,
+                key,
+                to,
+            ),
             None => {
-                call.hang_up();
-                self.traffic.close(self.rt, self.quota, key, call.host());
+                call.close_socket();
+                self.socket_set.close(self.rt, self.quota, key, call.host());
                 self.end_unconnected(key);
                 true
             }
@@ -386,7 +390,7 @@ impl<'a, R: Wait + Net + time::Clock, G: SyncGroup> Callbacks<'a, R, G> {
         ensures { self.new ≡ self.old }
     {
         if !self.waits_for_socket(key) {
-            self.traffic.end(key);
+            self.socket_set.end(key);
         }
     }
 
@@ -402,7 +406,7 @@ impl<'a, R: Wait + Net + time::Clock, G: SyncGroup> Callbacks<'a, R, G> {
             return false;
         }
         call.start_over();
-        let now = self.traffic.moment(self.rt);
+        let now = self.socket_set.moment(self.rt);
         let is_held = self
             .sparing
             .holds_until(key, now.saturating_add(SOCKET_PAUSE_MS));
@@ -421,11 +425,13 @@ impl<'a, R: Wait + Net + time::Clock, G: SyncGroup> Callbacks<'a, R, G> {
         let Some(call) = self.calls.get_mut(key) else {
             return;
         };
-        match call.advance(self.traffic.buffer.as_mut_slice()) {
+        match call.advance(self.socket_set.buffer.as_mut_slice()) {
             Seen::Waits | Seen::Idle => {}
             Seen::Connected => {
-                let until = call.began().saturating_add(self.share.patience.reply);
-                self.traffic.allow(key, until);
+                let until = call
+                    .began()
+                    .saturating_add(self.worker_quota.time_outs.reply);
+                self.socket_set.allow(key, until);
             }
             Seen::Refused => self.connect(key),
             Seen::Ended => self.finish(key),
@@ -439,9 +445,9 @@ impl<'a, R: Wait + Net + time::Clock, G: SyncGroup> Callbacks<'a, R, G> {
         let Some(call) = self.calls.get_mut(key) else {
             return;
         };
-        if call.hang_up() {
-            self.traffic.close(self.rt, self.quota, key, call.host());
-            self.traffic.end(key);
+        if call.close_socket() {
+            self.socket_set.close(self.rt, self.quota, key, call.host());
+            self.socket_set.end(key);
         }
     }
 
@@ -452,9 +458,9 @@ impl<'a, R: Wait + Net + time::Clock, G: SyncGroup> Callbacks<'a, R, G> {
         let Some(call) = self.calls.get_mut(key) else {
             return;
         };
-        if call.give_up(self.share.patience) {
-            self.traffic.close(self.rt, self.quota, key, call.host());
-            self.traffic.end(key);
+        if call.give_up(self.worker_quota.time_outs) {
+            self.socket_set.close(self.rt, self.quota, key, call.host());
+            self.socket_set.end(key);
         }
     }
 
@@ -470,7 +476,7 @@ impl<'a, R: Wait + Net + time::Clock, G: SyncGroup> Callbacks<'a, R, G> {
         self.tell();
         tell_of(self.rt, self.outcomes, &mut self.clock, &call);
         let came = call.finish();
-        note(self.rt, &mut self.traffic, &mut self.sparing, &came);
+        note(self.rt, &mut self.socket_set, &mut self.sparing, &came);
         came
     }
 
@@ -478,8 +484,8 @@ impl<'a, R: Wait + Net + time::Clock, G: SyncGroup> Callbacks<'a, R, G> {
     fn advance_all(&mut self)
         ensures { self.new ≡ self.old }
     {
-        for place in 0..self.traffic.reported.len() {
-            if let Some(key) = self.traffic.reported.get(place).copied() {
+        for place in 0..self.socket_set.reported.len() {
+            if let Some(key) = self.socket_set.reported.get(place).copied() {
                 self.advance(key);
             }
         }
@@ -490,7 +496,7 @@ impl<'a, R: Wait + Net + time::Clock, G: SyncGroup> Callbacks<'a, R, G> {
         ensures { self.new ≡ self.old }
     {
         for _ in 0..u64::MAX {
-            let Some(key) = self.traffic.late(now) else {
+            let Some(key) = self.socket_set.late(now) else {
                 return;
             };
             self.give_up(key);
@@ -512,12 +518,12 @@ impl<'a, R: Wait + Net + time::Clock, G: SyncGroup> Callbacks<'a, R, G> {
     fn turn(&mut self, millis: u64)
         ensures { self.new ≡ self.old }
     {
-        let now = self.traffic.moment(self.rt);
-        self.traffic.hosts.ask_again();
+        let now = self.socket_set.moment(self.rt);
+        self.socket_set.hosts.ask_again();
         self.start_all(now);
-        self.traffic.wait(millis);
+        self.socket_set.wait(millis);
         self.advance_all();
-        let now = self.traffic.moment(self.rt);
+        let now = self.socket_set.moment(self.rt);
         self.finish_late(now);
         self.start_all(now);
     }
@@ -532,19 +538,19 @@ impl<'a, R: Wait + Net + time::Clock, G: SyncGroup> Callbacks<'a, R, G> {
         if next.is_some_and(|moment| moment <= now) {
             self.call_others(now);
         }
-        if !self.traffic.unkept.is_empty() || !self.traffic.ended.is_empty() {
+        if !self.socket_set.awaiting_sync.is_empty() || !self.socket_set.ended.is_empty() {
             return 0;
         }
-        let rest = rest_for(next, now, self.is_roomy(), self.traffic.has_to_look());
+        let rest = rest_for(next, now, self.is_roomy(), self.socket_set.has_to_look());
         match self.sparing.first() {
-            Some(moment) => rest_before(rest, moment, self.traffic.moment(self.rt)),
+            Some(moment) => rest_before(rest, moment, self.socket_set.moment(self.rt)),
             None => rest,
         }
     }
 
     /// Returns whether the worker accepts one more errand.
     fn is_roomy(&self) -> bool {
-        self.count() < self.share.held as usize
+        self.count() < self.worker_quota.held as usize
     }
 
     /// Wakes the other callback workers, since something is due that this worker didn't accept: it has no room, or too
@@ -554,27 +560,27 @@ impl<'a, R: Wait + Net + time::Clock, G: SyncGroup> Callbacks<'a, R, G> {
     {
         if now >= self.rang.saturating_add(SHORT_REST_MS) {
             self.rang = now;
-            ring(self.bells.as_slice());
+            wake_workers(self.wakers.as_slice());
         }
     }
 
     /// Moves what can be moved until the office may be polled again.
-    fn linger(&mut self)
+    fn run_until(&mut self)
         ensures { self.new ≡ self.old }
     {
         for _ in 0..PAUSE_MS * 32 {
-            let now = self.traffic.moment(self.rt);
+            let now = self.socket_set.moment(self.rt);
             let until = self.looked.saturating_add(PAUSE_MS);
             if now >= until {
                 break;
             }
             self.turn(until - now);
         }
-        self.looked = self.traffic.moment(self.rt);
+        self.looked = self.socket_set.moment(self.rt);
     }
 }
 
-impl<R: Wait + Net + time::Clock, G: SyncGroup> Carriage for Callbacks<'_, R, G> {
+impl<R: Wait + Net + time::Clock, G: SyncGroup> CallbackPool for Callbacks<'_, R, G> {
     ghost use Rattle.lra_callbacks.specs.Outcomes.{MayComeOf, coming_of_suits, silence_comes_of};
     ghost use Rattle.lra_callbacks.specs.Held.{errand_at};
 
@@ -589,7 +595,7 @@ impl<R: Wait + Net + time::Clock, G: SyncGroup> Carriage for Callbacks<'_, R, G>
     }
 
     fn take(&mut self, errand: Errand, position: u64) -> Result<(), Errand> {
-        if self.traffic.make_room(self.calls.len()).is_none() {
+        if self.socket_set.make_room(self.calls.len()).is_none() {
             return Err(errand);
         }
         if self.calls.reserve(1).is_err() {
@@ -597,28 +603,28 @@ impl<R: Wait + Net + time::Clock, G: SyncGroup> Carriage for Callbacks<'_, R, G>
         }
         let call = Call::new(errand, self.instance, position);
         let key = self.calls.insert_reserved(call);
-        let _ = self.traffic.unkept.push_back(key);
+        let _ = self.socket_set.awaiting_sync.push_back(key);
         self.tell();
         Ok(())
     }
 
     /// Rests for a second at most. Rests for 50 ms at most if it has no room, since it can't accept what is due then.
     fn carry(&mut self, next: Option<u64>) {
-        self.depart_all();
+        self.launch_all();
         let rest = self.rest(next);
         self.turn(rest);
-        if !self.traffic.unkept.is_empty() {
+        if !self.socket_set.awaiting_sync.is_empty() {
             self.settle();
-            self.depart_all();
+            self.launch_all();
             // After this, a call that still waits waits for its host.
-            let now = self.traffic.moment(self.rt);
+            let now = self.socket_set.moment(self.rt);
             self.start_all(now);
         }
-        self.linger();
+        self.run_until();
     }
 
     fn done(&mut self) -> Option<(Errand, Outcome)> {
-        match self.traffic.ended.pop_front() {
+        match self.socket_set.ended.pop_front() {
             Some(key) => self.remove(key),
             None => None,
         }

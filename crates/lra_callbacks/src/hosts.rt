@@ -1,7 +1,7 @@
 //! Hosts that callbacks go to, and the callbacks that wait for each.
 
-use crate::book::Found;
-use crate::names::Names;
+use crate::dns_cache::Found;
+use crate::names::SharedDnsCache;
 use crate::quota::{Asked, Quota};
 use slab::Slab;
 use std::alloc::Global;
@@ -21,7 +21,7 @@ struct Host {
     /// Moment until which they are valid, in milliseconds.
     until: u64,
     /// Moment until which it waits for the look-up of its name, in milliseconds.
-    patience: u64,
+    time_outs: u64,
     /// Number of permits that it has, for its open sockets among them.
     permits: u32,
     /// Number of open sockets to it.
@@ -197,7 +197,13 @@ impl Hosts {
     }
 
     /// Returns the next callback of the hosts that stand in line.
-    pub(crate) fn next<R: Wait>(&mut self, rt: &R, names: &Names, quota: &Quota, now: u64) -> Next {
+    pub(crate) fn next<R: Wait>(
+        &mut self,
+        rt: &R,
+        names: &SharedDnsCache,
+        quota: &Quota,
+        now: u64,
+    ) -> Next {
         for _ in 0..self.line.len() {
             let Some(number) = self.line.pop_front() else {
                 return Next::Nothing;
@@ -214,7 +220,7 @@ impl Hosts {
     fn next_of<R: Wait>(
         &mut self,
         rt: &R,
-        names: &Names,
+        names: &SharedDnsCache,
         quota: &Quota,
         number: usize,
         now: u64,
@@ -296,7 +302,7 @@ impl Host {
             socket,
             addresses,
             until,
-            patience: 0,
+            time_outs: 0,
             permits: 0,
             open: 0,
             waiting: VecDeque::new(alloc),
@@ -355,7 +361,7 @@ impl Host {
     }
 
     /// Finds the host's addresses if the known ones aren't valid any more.
-    fn look_up<R: Wait>(&mut self, rt: &R, names: &Names, now: u64) -> Known {
+    fn look_up<R: Wait>(&mut self, rt: &R, names: &SharedDnsCache, now: u64) -> Known {
         if now < self.until {
             return Known::Yes;
         }
@@ -367,7 +373,7 @@ impl Host {
             }
             Found::Missed => Known::No,
             Found::Asked => {
-                self.patience = now.saturating_add(NAME_MS);
+                self.time_outs = now.saturating_add(NAME_MS);
                 Known::NotYet
             }
             Found::Pending => self.wait_on(now),
@@ -376,10 +382,10 @@ impl Host {
 
     /// Waits for the look-up of the host's name, up to a moment.
     fn wait_on(&mut self, now: u64) -> Known {
-        if self.patience == 0 {
-            self.patience = now.saturating_add(NAME_MS);
+        if self.time_outs == 0 {
+            self.time_outs = now.saturating_add(NAME_MS);
         }
-        if now < self.patience {
+        if now < self.time_outs {
             Known::NotYet
         } else {
             Known::No

@@ -2,10 +2,10 @@
 #![tactic(auto)]
 
 mod attempt;
-mod book;
 mod call;
 mod callbacks;
 mod counts;
+mod dns_cache;
 mod hosts;
 mod names;
 mod places;
@@ -13,13 +13,13 @@ mod pumping;
 mod quota;
 mod replies;
 mod resting;
-mod share;
 mod silences;
+mod socket_set;
 mod sparing;
-mod traffic;
+mod worker_quota;
 
 pub use callbacks::Callbacks;
-pub use names::Names;
+pub use names::SharedDnsCache;
 pub use quota::Quota;
-pub use share::{Patience, Share};
-pub use traffic::{bell, ring};
+pub use socket_set::{wake_workers, waker};
+pub use worker_quota::{TimeOuts, WorkerQuota};

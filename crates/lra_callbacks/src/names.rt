@@ -1,7 +1,7 @@
 //! DNS cache, as all callback workers share it.
 
-use crate::book::{Book, Found};
-use crate::traffic::ring;
+use crate::dns_cache::{DnsCache, Found};
+use crate::socket_set::wake_workers;
 use mio::Waker;
 use std::alloc::Global;
 use std::net::{Net, SocketAddr, ToSocketAddrs};
@@ -11,9 +11,9 @@ use std::time::Clock;
 /// DNS cache of hosts that have names, for all callback workers. Resolver threads look the names up, since the system
 /// blocks a thread that asks.
 #[derive(Drop)]
-pub struct Names {
+pub struct SharedDnsCache {
     alloc: Global,
-    book: Mutex<Book>,
+    dns_cache: Mutex<DnsCache>,
     /// Condition that the resolvers wait for.
     asked: Condvar,
 }
@@ -35,19 +35,19 @@ fn look_up<R: Net>(rt: &R, alloc: Global, socket: &str) -> Option<Vec<SocketAddr
     Some(found)
 }
 
-impl Names {
+impl SharedDnsCache {
     /// Makes an empty cache.
-    pub fn new(alloc: Global) -> Names {
-        Names {
+    pub fn new(alloc: Global) -> SharedDnsCache {
+        SharedDnsCache {
             alloc,
-            book: Mutex::new(Book::new(alloc)),
+            dns_cache: Mutex::new(DnsCache::new(alloc)),
             asked: Condvar::new(),
         }
     }
 
     /// Returns what is known of a host and port at a moment. Requests their look-up if nothing is.
     pub(crate) fn find<R: Wait>(&self, rt: &R, socket: &str, now: u64) -> Found {
-        let found = self.book.lock(rt).find(self.alloc, socket, now);
+        let found = self.dns_cache.lock(rt).find(self.alloc, socket, now);
         if matches!(found, Found::Asked) {
             self.asked.notify_one();
         }
@@ -56,24 +56,26 @@ impl Names {
 
     /// Looks up the names that are requested, and wakes the callback workers after each, until the cache is closed. One
     /// or several threads of their own have to call this.
-    pub fn run<R: Wait + Net + Clock>(&self, rt: &R, bells: &[Waker]) {
+    pub fn run<R: Wait + Net + Clock>(&self, rt: &R, wakers: &[Waker]) {
         for _ in rt.forever() {
-            let book = self.book.lock(rt);
-            let mut book = self.asked.wait_while(rt, book, |book| book.is_idle());
-            let Some(socket) = book.next() else {
+            let dns_cache = self.dns_cache.lock(rt);
+            let mut dns_cache = self
+                .asked
+                .wait_while(rt, dns_cache, |dns_cache| dns_cache.is_idle());
+            let Some(socket) = dns_cache.next() else {
                 return;
             };
-            drop(book);
+            drop(dns_cache);
             let found = look_up(rt, self.alloc, socket.as_str());
             let now = steady_now(rt).unwrap_or(0);
-            self.book.lock(rt).tell(socket.as_str(), found, now);
-            ring(bells);
+            self.dns_cache.lock(rt).tell(socket.as_str(), found, now);
+            wake_workers(wakers);
         }
     }
 
     /// Closes the cache: nothing more is requested, and the resolvers end.
     pub fn close<R: Wait>(&self, rt: &R) {
-        self.book.lock(rt).close();
+        self.dns_cache.lock(rt).close();
         self.asked.notify_all();
     }
 }

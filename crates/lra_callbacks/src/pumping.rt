@@ -2,7 +2,7 @@
 
 ghost use Rattle.lra_callbacks.specs.inner.Attempts.{IsOfSame, HandsOut, TakesIn};
 
-use lra_courier::{Carrying, Step};
+use lra_courier::{CallbackExchange, Step};
 use std::io::{ErrorKind, Read, Write};
 
 /// Largest number of steps that a callback takes: more than it has bytes.
@@ -18,40 +18,45 @@ pub(crate) enum Moved {
 }
 
 /// Writes bytes of the request to a stream. Returns whether the stream may accept more now.
-fn hand_out<S: Write>(carrying: &mut Carrying, stream: &mut S) -> bool
-    ensures same { IsOfSame carrying.old carrying.new }
-    ensures out { HandsOut carrying.old carrying.new (S.contents stream.old) (S.contents stream.new) }
+fn hand_out<S: Write>(callback_exchange: &mut CallbackExchange, stream: &mut S) -> bool
+    ensures same { IsOfSame callback_exchange.old callback_exchange.new }
+    ensures out { HandsOut callback_exchange.old callback_exchange.new (S.contents stream.old) (S.contents stream.new) }
 {
-    match stream.write(carrying.out()) {
-        Ok(0) => carrying.failed(),
-        Ok(count) => carrying.gone(count),
+    match stream.write(callback_exchange.out()) {
+        Ok(0) => callback_exchange.failed(),
+        Ok(count) => callback_exchange.advance_by(count),
         Err(error) => match error.kind() {
             ErrorKind::WouldBlock => return false,
             ErrorKind::Interrupted => {}
-            _ => carrying.failed(),
+            _ => callback_exchange.failed(),
         },
     }
     true
 }
 
 /// Reads bytes of the response from a stream. Returns whether the stream may have more now.
-fn take_in<S: Read>(carrying: &mut Carrying, stream: &mut S, buffer: &mut [u8]) -> bool
-    ensures same { IsOfSame carrying.old carrying.new }
-    ensures taken { TakesIn carrying.old carrying.new (S.remaining stream.old) (S.remaining stream.new) }
+fn take_in<S: Read>(
+    callback_exchange: &mut CallbackExchange,
+    stream: &mut S,
+    buffer: &mut [u8],
+) -> bool
+    ensures same { IsOfSame callback_exchange.old callback_exchange.new }
+    ensures taken { TakesIn callback_exchange.old callback_exchange.new (S.remaining stream.old)
+        (S.remaining stream.new) }
 {
-    let room = carrying.room().min(buffer.len());
+    let room = callback_exchange.room().min(buffer.len());
     match stream.read(&mut buffer[..room]) {
-        Ok(0) => carrying.ended(),
+        Ok(0) => callback_exchange.ended(),
         Ok(count) => {
             // If memory is refused for these bytes, the stream counts as cut.
-            if !carrying.take(&buffer[..count]).unwrap_or(false) {
-                carrying.failed();
+            if !callback_exchange.take(&buffer[..count]).unwrap_or(false) {
+                callback_exchange.failed();
             }
         }
         Err(error) => match error.kind() {
             ErrorKind::WouldBlock => return false,
             ErrorKind::Interrupted => {}
-            _ => carrying.failed(),
+            _ => callback_exchange.failed(),
         },
     }
     true
@@ -59,16 +64,16 @@ fn take_in<S: Read>(carrying: &mut Carrying, stream: &mut S, buffer: &mut [u8]) 
 
 /// Moves bytes until the callback has to wait for its stream, or has ended.
 pub(crate) fn pump<S: Read + Write>(
-    carrying: &mut Carrying,
+    callback_exchange: &mut CallbackExchange,
     stream: &mut S,
     buffer: &mut [u8],
 ) -> Moved
-    ensures { IsOfSame carrying.old carrying.new }
+    ensures { IsOfSame callback_exchange.old callback_exchange.new }
 {
     for _ in 0..MOST_STEPS {
-        let goes_on = match carrying.next() {
-            Ok(Step::Sends) => hand_out(carrying, stream),
-            Ok(Step::Wants) => take_in(carrying, stream, buffer),
+        let goes_on = match callback_exchange.next() {
+            Ok(Step::Sends) => hand_out(callback_exchange, stream),
+            Ok(Step::NeedsInput) => take_in(callback_exchange, stream, buffer),
             Ok(Step::Came(_)) => return Moved::Ended,
             Err(_) => return Moved::Ended,
         };

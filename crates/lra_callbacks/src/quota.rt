@@ -12,7 +12,7 @@ use std::sync::{Arc, Mutex, Wait};
 #[derive(Drop)]
 struct Worker {
     /// Wakers of several workers.
-    bells: Arc<Vec<Waker>>,
+    wakers: Arc<Vec<Waker>>,
     /// Index of its own waker among them.
     place: usize,
     /// Number of hosts at which it waits, or to which it was called.
@@ -78,9 +78,9 @@ impl Worker {
 
     /// Wakes the worker.
     fn wake(&self) {
-        if let Some(bell) = self.bells.get(self.place) {
+        if let Some(waker) = self.wakers.get(self.place) {
             // A worker that can't be woken polls by itself.
-            let _ = bell.wake();
+            let _ = waker.wake();
         }
     }
 
@@ -169,11 +169,11 @@ impl Quota {
         &self,
         rt: &R,
         alloc: Global,
-        bells: &Arc<Vec<Waker>>,
+        wakers: &Arc<Vec<Waker>>,
         place: usize,
     ) -> Option<usize> {
         let worker = Worker {
-            bells: bells.clone().ok()?,
+            wakers: wakers.clone().ok()?,
             place,
             waits: 0,
             called: VecDeque::new(alloc),

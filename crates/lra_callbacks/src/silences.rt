@@ -3,7 +3,7 @@
 ghost use Rattle.std.specs.Prelude.{◌≡◌, ◌≢◌, ℕ, None, nat_eq};
 ghost use Rattle.std.specs.HashMap.{get};
 ghost use Rattle.lra_model.specs.Wants as wants;
-ghost use Rattle.lra_callbacks.specs.inner.Silences.{again, is_again, Notes};
+ghost use Rattle.lra_callbacks.specs.inner.SilentMembers.{again, is_again, Notes};
 
 use lra_core::Errand;
 use lra_model::{AskKind, Direction, Outcome};
@@ -13,7 +13,7 @@ use std::collections::HashMap;
 /// Silence of a member that was asked in a stage, and the moment until which its callback waited for it, in
 /// milliseconds.
 #[derive(Clone, Copy, Debug, PartialEq, Eq)]
-pub(crate) struct Silence {
+pub(crate) struct SilentMember {
     stage: AskKind,
     moment: u64,
 }
@@ -30,7 +30,7 @@ fn stage_of(errand: &Errand) -> AskKind
 }
 
 /// Returns whether an ask of that stage repeats one to which the member was silent.
-fn is_again(silence: &Silence, stage: AskKind) -> bool
+fn is_again(silence: &SilentMember, stage: AskKind) -> bool
     ensures { result ≡ is_again silence.now stage }
 {
     silence.stage == stage
@@ -38,16 +38,16 @@ fn is_again(silence: &Silence, stage: AskKind) -> bool
 
 /// Members that were silent when they were asked last, by number.
 #[derive(Drop)]
-pub(crate) struct Silences {
-    by_member: HashMap<u64, Silence>,
+pub(crate) struct SilentMembers {
+    by_member: HashMap<u64, SilentMember>,
 }
 
-impl Silences {
+impl SilentMembers {
     /// Makes an empty set: no member was silent.
-    pub(crate) fn new(alloc: Global) -> Silences
+    pub(crate) fn new(alloc: Global) -> SilentMembers
         ensures { (member : ℕ) → get nat_eq result.by_member member ≡ None }
     {
-        Silences {
+        SilentMembers {
             by_member: HashMap::new(alloc),
         }
     }
@@ -80,7 +80,7 @@ impl Silences {
         let stage = stage_of(errand);
         if self
             .by_member
-            .insert(member, Silence { stage, moment })
+            .insert(member, SilentMember { stage, moment })
             .is_err()
         {
             self.by_member.remove(&member);

@@ -1,9 +1,9 @@
 //! Back-off of callbacks whose members were silent.
 
 ghost use Rattle.std.specs.Prelude.{◌≡◌};
-ghost use Rattle.lra_callbacks.specs.inner.Silences as spec;
+ghost use Rattle.lra_callbacks.specs.inner.SilentMembers as spec;
 
-use crate::silences::Silences;
+use crate::silences::SilentMembers;
 use lra_core::Errand;
 use lra_model::Outcome;
 use std::alloc::Global;
@@ -53,7 +53,7 @@ pub(crate) struct Sparing<'a> {
     least_pause: &'a AtomicU64,
     /// The moment of the office's clock that was read last.
     office: u64,
-    silences: Silences,
+    silences: SilentMembers,
     /// Callbacks that wait, by the moment until which they wait and the slot of their errands.
     waiting: BTreeSet<(u64, usize)>,
 }
@@ -64,7 +64,7 @@ impl<'a> Sparing<'a> {
         Sparing {
             least_pause,
             office: 0,
-            silences: Silences::new(alloc),
+            silences: SilentMembers::new(alloc),
             waiting: BTreeSet::new(alloc),
         }
     }

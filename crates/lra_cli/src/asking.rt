@@ -2,7 +2,7 @@
 
 use lra_journal::read_number;
 use lra_model::ActionStatus;
-use lra_stories::{Form, read_wanted};
+use lra_timelines::{Form, read_wanted};
 
 /// Question for a timeline or a listing, or to follow a journal.
 #[derive(Clone, Copy)]
@@ -16,7 +16,7 @@ pub(crate) enum Asking<'a> {
     /// A line for each action.
     List {
         place: &'a str,
-        choice: Listed,
+        choice: ListOptions,
     },
     /// The audit of a journal, or of a folder's, as it grows.
     Follow {
@@ -39,15 +39,15 @@ impl<'a> Asking<'a> {
 /// Options of a listing: which actions it has, whether their ages count up to now, and whether it says what they wait
 /// for.
 #[derive(Clone, Copy)]
-pub(crate) struct Listed {
+pub(crate) struct ListOptions {
     pub(crate) status: Option<ActionStatus>,
     pub(crate) older_than: Option<u64>,
     pub(crate) is_now: bool,
     pub(crate) waits: bool,
 }
 
-impl Listed {
-    const ALL: Listed = Listed {
+impl ListOptions {
+    const ALL: ListOptions = ListOptions {
         status: None,
         older_than: None,
         is_now: false,
@@ -65,7 +65,7 @@ enum Valued {
 /// Options of a listing so far, and the one whose value comes next.
 #[derive(Clone, Copy)]
 struct Choosing {
-    choice: Listed,
+    choice: ListOptions,
     open: Option<Valued>,
 }
 
@@ -103,9 +103,9 @@ impl Choosing {
 }
 
 /// Reads the options of a listing.
-fn read_choice(options: &[String]) -> Option<Listed> {
+fn read_choice(options: &[String]) -> Option<ListOptions> {
     let mut choosing = Choosing {
-        choice: Listed::ALL,
+        choice: ListOptions::ALL,
         open: None,
     };
     for word in options {

@@ -4,7 +4,7 @@ use lra_audits::{RunFault, error_line, next_piece, put, settle, tell, tell_usage
 use lra_folders::{Found, find, is_folder, tell_none};
 use lra_journal::{Instance, first_line, read_header};
 use lra_reports::{Sources, System};
-use lra_stories::{Form, Wanted, explain_run, missing_text, read_wanted};
+use lra_timelines::{Form, Wanted, explain_run, missing_text, read_wanted};
 use std::io;
 use std::io::Read;
 use std::rt::Files;
@@ -14,7 +14,7 @@ const HEADER: usize = 64;
 
 /// Result of a search for the journal of an instance.
 #[derive(Drop)]
-enum Search {
+enum JournalSearch {
     /// The path of the journal.
     Found(String),
     /// No journal has the instance.
@@ -68,19 +68,19 @@ fn find_in<R: AllocGlobal + Files + Input + Eprint>(
     folder: &str,
     found: &Found,
     instance: Instance,
-) -> Result<Search, RunFault> {
+) -> Result<JournalSearch, RunFault> {
     let alloc = rt.alloc();
-    let mut outcome = Search::Missing;
+    let mut outcome = JournalSearch::Missing;
     for name in &found.journals {
         let name = name.as_str();
         let path = format!(in alloc; "{folder}/{name}")?;
         match has_instance(rt, path.as_str(), instance) {
-            Ok(true) => return Ok(Search::Found(path)),
+            Ok(true) => return Ok(JournalSearch::Found(path)),
             Ok(false) => {}
             Err(RunFault::Memory) => return Err(RunFault::Memory),
             Err(fault) => {
                 let _ = tell(rt, error_line(alloc, fault, path.as_str()));
-                outcome = Search::Unread;
+                outcome = JournalSearch::Unread;
             }
         }
     }
@@ -88,7 +88,7 @@ fn find_in<R: AllocGlobal + Files + Input + Eprint>(
 }
 
 /// Reports that a number alone names an action in each of a folder's journals. Returns the program's status.
-fn tell_ambiguous<R: AllocGlobal + Eprint>(rt: &R, folder: &str, name: &str) -> u8 {
+fn report_ambiguous<R: AllocGlobal + Eprint>(rt: &R, folder: &str, name: &str) -> u8 {
     tell(
         rt,
         format!(in rt.alloc();
@@ -134,16 +134,16 @@ fn explain_found<R: AllocGlobal + Files + Input + Print + Eprint>(
         return Ok(tell_none(rt, folder));
     }
     match find_in(rt, folder, found, instance)? {
-        Search::Found(path) => {
+        JournalSearch::Found(path) => {
             let outcome = explain(rt, path.as_str(), wanted, form, name);
             Ok(settle(rt, outcome, path.as_str()))
         }
-        Search::Missing => {
+        JournalSearch::Missing => {
             let line = missing_text(rt.alloc(), name)?;
             put(&mut io::writer(rt), line.as_bytes())?;
             Ok(1)
         }
-        Search::Unread => Ok(2),
+        JournalSearch::Unread => Ok(2),
     }
 }
 
@@ -156,7 +156,7 @@ fn explain_in<R: AllocGlobal + Files + Input + Print + Eprint + Clone + Drop>(
     name: &str,
 ) -> u8 {
     let Some(instance) = wanted.instance else {
-        return tell_ambiguous(rt, folder, name);
+        return report_ambiguous(rt, folder, name);
     };
     let outcome = match find(rt, folder) {
         Ok(found) => explain_found(rt, folder, &found, instance, wanted, form, name),

@@ -1,7 +1,7 @@
 //! Progress of an audit, a listing or an upgrade, on a line of a terminal that is overwritten again and again.
 
 use lra_audits::RunFault;
-use lra_opening::Herald;
+use lra_opening::Notifier;
 use lra_reports::{Sources, System};
 use std::alloc::Global;
 use std::io;
@@ -27,7 +27,7 @@ const BLANK: &str = "\r                                                \r";
 pub(crate) struct Gauge<'a, R, H> {
     alloc: Global,
     clock: &'a R,
-    herald: &'a H,
+    notifier: &'a H,
     /// Number of bytes to read.
     all: u64,
     /// Number of bytes that were read.
@@ -46,13 +46,13 @@ fn steady<R: Clock>(clock: &R) -> u64 {
     }
 }
 
-impl<'a, R: Clock, H: Herald> Gauge<'a, R, H> {
+impl<'a, R: Clock, H: Notifier> Gauge<'a, R, H> {
     /// Returns the progress of a run that has so many bytes to read, and has read none.
-    pub(crate) fn new(alloc: Global, clock: &'a R, herald: &'a H, all: u64) -> Gauge<'a, R, H> {
+    pub(crate) fn new(alloc: Global, clock: &'a R, notifier: &'a H, all: u64) -> Gauge<'a, R, H> {
         Gauge {
             alloc,
             clock,
-            herald,
+            notifier,
             all,
             read: AtomicU64::new(0),
             due: AtomicU64::new(steady(clock).saturating_add(FIRST)),
@@ -68,7 +68,7 @@ impl<'a, R: Clock, H: Herald> Gauge<'a, R, H> {
         );
         if let Ok(line) = format!(in self.alloc; "\rlra: {read} of {all} MB") {
             self.stands.store(true, Ordering::SeqCst);
-            self.herald.tell(line.as_str());
+            self.notifier.notify(line.as_str());
         }
     }
 
@@ -85,19 +85,19 @@ impl<'a, R: Clock, H: Herald> Gauge<'a, R, H> {
     /// Clears the line, if it is on the terminal.
     pub(crate) fn clear(&self) {
         if self.stands.swap(false, Ordering::SeqCst) {
-            self.herald.tell(BLANK);
+            self.notifier.notify(BLANK);
         }
     }
 }
 
 /// Reader whose bytes are counted. At its end, and where it fails, the line is cleared.
 #[derive(Drop)]
-pub(crate) struct Counted<'a, F, R, H> {
+pub(crate) struct CountedReader<'a, F, R, H> {
     reader: F,
     gauge: &'a Gauge<'a, R, H>,
 }
 
-impl<F: Read, R: Clock, H: Herald> Read for Counted<'_, F, R, H> {
+impl<F: Read, R: Clock, H: Notifier> Read for CountedReader<'_, F, R, H> {
     ghost remaining = { λ c. F.remaining c.reader };
 
     fn read(&mut self, buf: &mut [u8]) -> io::Result<usize> {
@@ -117,7 +117,7 @@ pub(crate) struct Tidy<'a, W, R, H> {
     pub(crate) gauge: &'a Gauge<'a, R, H>,
 }
 
-impl<W: Write, R: Clock, H: Herald> Write for Tidy<'_, W, R, H> {
+impl<W: Write, R: Clock, H: Notifier> Write for Tidy<'_, W, R, H> {
     fn write(&mut self, bytes: &[u8]) -> io::Result<usize> {
         self.gauge.clear();
         self.writer.write(bytes)
@@ -135,18 +135,18 @@ pub(crate) struct Gauged<'a, R, H> {
     pub(crate) gauge: &'a Gauge<'a, R, H>,
 }
 
-impl<'a, R: Files + Input + Clock, H: Herald> Sources for Gauged<'a, R, H> {
+impl<'a, R: Files + Input + Clock, H: Notifier> Sources for Gauged<'a, R, H> {
     type Input = R::Reader;
 
-    type File = Counted<'a, R::File, R, H>;
+    type File = CountedReader<'a, R::File, R, H>;
 
     fn input(&self) -> R::Reader {
         self.system.input()
     }
 
-    fn open(&self, name: &str) -> Result<Counted<'a, R::File, R, H>, RunFault> {
+    fn open(&self, name: &str) -> Result<CountedReader<'a, R::File, R, H>, RunFault> {
         match self.system.open(name) {
-            Ok(reader) => Ok(Counted {
+            Ok(reader) => Ok(CountedReader {
                 reader,
                 gauge: self.gauge,
             }),
@@ -154,8 +154,8 @@ impl<'a, R: Files + Input + Clock, H: Herald> Sources for Gauged<'a, R, H> {
         }
     }
 
-    fn open_again(&self, name: &str) -> Option<Counted<'a, R::File, R, H>> {
-        Some(Counted {
+    fn open_again(&self, name: &str) -> Option<CountedReader<'a, R::File, R, H>> {
+        Some(CountedReader {
             reader: self.system.open_again(name)?,
             gauge: self.gauge,
         })

@@ -3,10 +3,10 @@
 //! of commands; and serves a coordinator.
 #![tactic(auto)]
 
+mod access_configuration;
 mod asking;
 mod explaining;
 mod gauge;
-mod grounds;
 mod misuse;
 mod nowhere;
 mod questioning;
@@ -18,12 +18,12 @@ mod texts;
 
 use crate::asking::read_asking;
 use crate::questioning::answer_watched;
-use crate::reasons::{behind, tell_misuse};
+use crate::reasons::{behind, report_misuse};
 use crate::serving::{answer_options, answer_serve, have_options};
 use crate::telling::{answer_asking, answer_help};
 use lra_admission::KeyFiles;
 use lra_audits::{settle, words_of};
-use lra_opening::{Herald, Watched};
+use lra_opening::{Notifier, TerminalNotifier};
 use lra_reports::{Invocation, Question, System, input_name};
 use lra_runs::{Task, play_file, read_task};
 use lra_storage::{Fenced, Timed};
@@ -80,7 +80,7 @@ fn answer<
         + Send
         + Clone
         + Drop,
-    H: Herald + Sync,
+    H: Notifier + Sync,
 >(rt: &R, words: &[String], watcher: &H) -> u8
 where
     R::Reader: AsFd,
@@ -108,13 +108,13 @@ where
         Err(_) if have_options(words) => answer_options(rt, words, watcher),
         Err(_) => match read_asking(words) {
             Some(asking) => behind(rt, watcher, asking.place(), true, answer_asking(rt, asking)),
-            None => tell_misuse(rt, watcher, words),
+            None => report_misuse(rt, watcher, words),
         },
     }
 }
 
 fn main(rt: HostRuntime) -> ExitCode {
-    let watcher = Watched {
+    let watcher = TerminalNotifier {
         rt: &rt,
         is_terminal: rt.stderr().is_terminal(),
     };

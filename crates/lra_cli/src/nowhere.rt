@@ -1,6 +1,6 @@
 //! Warning that the identifiers of a service lead nowhere.
 
-use lra_opening::Herald;
+use lra_opening::Notifier;
 use lra_options::{Options, Word};
 use std::alloc::{AllocError, Global};
 
@@ -23,16 +23,16 @@ fn nowhere_line(alloc: Global, address: &str) -> Result<String, AllocError> {
 }
 
 /// Warns if the identifiers of a service at an address lead nowhere.
-pub(crate) fn warn_of_nowhere<H: Herald>(
+pub(crate) fn warn_of_nowhere<H: Notifier>(
     alloc: Global,
     options: &Options<'_>,
     address: &str,
-    herald: &H,
+    notifier: &H,
 ) {
     if options.base.is_none()
         && is_unspecified(address)
         && let Ok(line) = nowhere_line(alloc, address)
     {
-        herald.tell(line.as_str());
+        notifier.notify(line.as_str());
     }
 }

@@ -3,7 +3,7 @@
 use crate::gauge::{Gauge, Gauged, Tidy};
 use lra_audits::{RunFault, settle};
 use lra_folders::{Deed, answer_question, find, is_folder, run_folder};
-use lra_opening::Herald;
+use lra_opening::Notifier;
 use lra_reports::{Invocation, Question, System, input_name, run};
 use std::fs::File;
 use std::marker::Sync;
@@ -67,7 +67,7 @@ fn answer_invocation<
         + Sync
         + Clone
         + Drop,
-    H: Herald + Sync,
+    H: Notifier + Sync,
 >(rt: &R, watcher: &H, invocation: Invocation<'_>) -> u8 {
     let alloc = rt.alloc();
     let deed = deed_of(rt, invocation);
@@ -101,7 +101,7 @@ pub(crate) fn answer_watched<
         + Sync
         + Clone
         + Drop,
-    H: Herald + Sync,
+    H: Notifier + Sync,
 >(rt: &R, watcher: &H, question: Question<'_>) -> u8 {
     match question {
         Question::Run(invocation) => answer_invocation(rt, watcher, invocation),

@@ -4,9 +4,9 @@ use crate::misuse::{misuse_line, misuse_of};
 use lra_audits::{tell, tell_usage};
 use lra_folders::is_folder;
 use lra_logs::Level;
-use lra_opening::{Herald, ServeFault};
+use lra_opening::{Notifier, ServeFault};
 use lra_options::OptionsFault;
-use lra_service::{Book, site_at};
+use lra_service::{LoggingNotifier, site_at};
 use std::alloc::{AllocError, Global};
 use std::fs;
 use std::fs::{File, OpenOptions, TryLockError};
@@ -172,7 +172,7 @@ impl FaultLog for Unlogged {
     fn note_fault(&self, _line: &str) {}
 }
 
-impl<R: Eprint + Clock + Wait> FaultLog for Book<R> {
+impl<R: Eprint + Clock + Wait> FaultLog for LoggingNotifier<R> {
     fn note_fault(&self, line: &str) {
         if !self.log.is_off() {
             self.log.tell(Level::Error, line);
@@ -181,10 +181,10 @@ impl<R: Eprint + Clock + Wait> FaultLog for Book<R> {
 }
 
 /// Log that is absent where its options are wrong.
-impl<R: Eprint + Clock + Wait> FaultLog for Result<Book<R>, OptionsFault> {
+impl<R: Eprint + Clock + Wait> FaultLog for Result<LoggingNotifier<R>, OptionsFault> {
     fn note_fault(&self, line: &str) {
-        if let Ok(book) = self {
-            book.note_fault(line);
+        if let Ok(logging_notifier) = self {
+            logging_notifier.note_fault(line);
         }
     }
 }
@@ -200,7 +200,7 @@ pub(crate) fn log_unsound<L: FaultLog>(alloc: Global, log: &L, file: &str) {
 /// too. Returns the program's status.
 pub(crate) fn fail<
     R: AllocGlobal + Files<File = File> + Net<Stream = TcpStream, Listener = TcpListener> + Eprint,
-    H: Herald,
+    H: Notifier,
     L: FaultLog,
 >(rt: &R, watcher: &H, log: &L, line: Result<String, AllocError>) -> u8 {
     let Ok(line) = line else {
@@ -215,7 +215,7 @@ pub(crate) fn fail<
         }
     };
     if let Ok(told) = told {
-        watcher.tell(told.as_str());
+        watcher.notify(told.as_str());
         log.note_fault(told.as_str());
     }
     FAULT
@@ -223,7 +223,7 @@ pub(crate) fn fail<
 
 /// Reports why the path that a failed call names can't be read, if standard error is a terminal. Returns the call's
 /// status.
-pub(crate) fn behind<R: AllocGlobal + Files<File = File>, H: Herald>(
+pub(crate) fn behind<R: AllocGlobal + Files<File = File>, H: Notifier>(
     rt: &R,
     watcher: &H,
     place: &str,
@@ -237,21 +237,21 @@ pub(crate) fn behind<R: AllocGlobal + Files<File = File>, H: Herald>(
         && let Ok(line) = format!(in rt.alloc(); "lra: {place}\n")
         && let Ok(told) = with_reason(rt.alloc(), line.as_str(), reason)
     {
-        watcher.tell(told.as_str());
+        watcher.notify(told.as_str());
     }
     status
 }
 
 /// Reports that a command line is refused, and the reason if standard error is a terminal. Returns the program's
 /// status.
-pub(crate) fn tell_misuse<R: AllocGlobal + Eprint, H: Herald>(
+pub(crate) fn report_misuse<R: AllocGlobal + Eprint, H: Notifier>(
     rt: &R,
     watcher: &H,
     words: &[String],
 ) -> u8 {
     let status = tell_usage(rt);
     if let Ok(line) = misuse_line(rt.alloc(), misuse_of(words)) {
-        watcher.tell(line.as_str());
+        watcher.notify(line.as_str());
     }
     status
 }

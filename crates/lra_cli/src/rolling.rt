@@ -1,16 +1,18 @@
 //! The service of a folder.
 
-use crate::grounds::Grounds;
+use crate::access_configuration::AccessConfiguration;
 use crate::reasons::{FaultLog, Unlogged, fail, log_unsound};
-use crate::serving::{put_words, tell_way};
+use crate::serving::{put_words, report_way};
 use lra_admission::KeyFiles;
 use lra_ids::Base;
-use lra_opening::Herald;
+use lra_opening::Notifier;
+use lra_operators_server::OperatorsServer;
 use lra_options::Options;
-use lra_rolling::{Conduct, FolderServed, RollingFault, check_folder, rolling_line, serve_folder};
-use lra_service::{Book, Entry};
+use lra_rolling::{
+    FolderOptions, FolderOutcome, RollingFault, check_folder, rolling_line, serve_folder,
+};
+use lra_service::{LoggingNotifier, ServiceInput};
 use lra_storage::Timed;
-use lra_watchpost::Watchpost;
 use std::env::Env;
 use std::fs::File;
 use std::io;
@@ -26,19 +28,19 @@ use std::time::Clock;
 /// sound, reports how to salvage it.
 fn settle_rolling<
     R: AllocGlobal + Files<File = File> + Net<Stream = TcpStream, Listener = TcpListener> + Eprint,
-    H: Herald,
+    H: Notifier,
     L: FaultLog,
 >(
     rt: &R,
-    outcome: Result<FolderServed, RollingFault>,
+    outcome: Result<FolderOutcome, RollingFault>,
     options: &Options<'_>,
     watcher: &H,
     log: &L,
 ) -> u8 {
     match outcome {
-        Ok(FolderServed::Ended) => 0,
-        Ok(FolderServed::Unsound { status, path }) => {
-            tell_way(rt, path.as_str());
+        Ok(FolderOutcome::Ended) => 0,
+        Ok(FolderOutcome::Unsound { status, path }) => {
+            report_way(rt, path.as_str());
             log_unsound(rt.alloc(), log, path.as_str());
             status
         }
@@ -62,7 +64,7 @@ pub(crate) fn check_rolling<
         + Wait
         + Print
         + Eprint,
-    H: Herald + Sync,
+    H: Notifier + Sync,
 >(rt: &R, options: &Options<'_>, base: Option<Base>, watcher: &H) -> u8 {
     let outcome = check_folder(
         rt,
@@ -76,19 +78,19 @@ pub(crate) fn check_rolling<
         &mut io::writer(rt),
     );
     let told = match outcome {
-        Ok(FolderServed::Ended) => tell_words(rt, options),
+        Ok(FolderOutcome::Ended) => report_words(rt, options),
         other => other,
     };
     settle_rolling(rt, told, options, watcher, &Unlogged)
 }
 
 /// Writes the values of the options that are texts, after the report of what would be served.
-fn tell_words<R: AllocGlobal + Print>(
+fn report_words<R: AllocGlobal + Print>(
     rt: &R,
     options: &Options<'_>,
-) -> Result<FolderServed, RollingFault> {
+) -> Result<FolderOutcome, RollingFault> {
     put_words(rt.alloc(), options, &mut io::writer(rt))?;
-    Ok(FolderServed::Ended)
+    Ok(FolderOutcome::Ended)
 }
 
 /// Serves a folder, and returns the program's status. The service ends once the input has ended, if there is one. The
@@ -109,38 +111,38 @@ pub(crate) fn serve_rolling<
         + Send
         + Clone
         + Drop,
-    H: Herald + Sync,
+    H: Notifier + Sync,
 >(
     rt: &R,
     options: &Options<'_>,
     address: &str,
-    grounds: Grounds,
-    post: Option<&Watchpost>,
-    entry: Entry<ChildStdout>,
-    book: &Book<R>,
+    access_configuration: AccessConfiguration,
+    post: Option<&OperatorsServer>,
+    entry: ServiceInput<ChildStdout>,
+    logging_notifier: &LoggingNotifier<R>,
     watcher: &H,
 ) -> u8 {
-    let (base, grounds) = grounds.parted();
+    let (base, access_configuration) = access_configuration.parted();
     let outcome = serve_folder(
         rt,
         address,
         base,
-        grounds.terms(&options.also_bases),
+        access_configuration.access_policy(&options.also_bases),
         options.file,
         options.workers,
         options.settings,
-        Conduct {
+        FolderOptions {
             drains: options.drains,
             is_restored: options.is_restored,
-            fence: grounds.fence(),
+            fence: access_configuration.fence(),
         },
         post,
         entry,
         watcher,
-        book,
+        logging_notifier,
         &mut io::writer(rt),
     );
-    let status = settle_rolling(rt, outcome, options, watcher, book);
-    book.log.close();
+    let status = settle_rolling(rt, outcome, options, watcher, logging_notifier);
+    logging_notifier.log.close();
     status
 }

@@ -1,8 +1,8 @@
 //! The service of a journal, or of a folder of them.
 
-use crate::grounds::{Grounds, copy_base, grounds_of, wrong};
+use crate::access_configuration::{AccessConfiguration, access_configuration_of, copy_base, wrong};
 use crate::nowhere::warn_of_nowhere;
-use crate::reasons::{FaultLog, Unlogged, fail, log_unsound, tell_misuse};
+use crate::reasons::{FaultLog, Unlogged, fail, log_unsound, report_misuse};
 use crate::rolling::{check_rolling, serve_rolling};
 use lra_admission::KeyFiles;
 use lra_audits::{RunFault, error_line, put, settle};
@@ -10,15 +10,16 @@ use lra_folders::is_folder;
 use lra_ids::Base;
 use lra_logs::{Format, LevelFilter, Logbook, has_priorities, level_named};
 use lra_opening::NamedFile;
-use lra_options::{Options, OptionsFault, Said, Word, read_options};
+use lra_operators_server::{OperatorsServer, PortFault, port_line, read_key};
+use lra_options::{Options, OptionsFault, RawOptions, Word, read_options};
 use lra_reports::hint_line;
 use lra_service::{
-    Aloud, Book, Entry, Herald, ServeFault, Served, Spot, Terms, check_place, fault_line,
-    fit_descriptors, put_text, serve_with, spot_at,
+    AccessPolicy, BoundAddress, LoggingNotifier, Notifier, ServeFault, ServiceInput,
+    ServiceOutcome, StandardErrorNotifier, bound_address_at, check_place, fault_line,
+    fit_descriptors, put_text, serve_with,
 };
 use lra_settings::{Settings, taken_by_file};
 use lra_storage::{Fenced, Timed};
-use lra_watchpost::{PortFault, Watchpost, port_line, read_key};
 use std::alloc::Global;
 use std::env::Env;
 use std::fs::{File, OpenOptions};
@@ -69,7 +70,7 @@ where
 }
 
 /// Reports on standard error how to salvage a journal that isn't served.
-pub(crate) fn tell_way<R: AllocGlobal + Eprint>(rt: &R, file: &str) {
+pub(crate) fn report_way<R: AllocGlobal + Eprint>(rt: &R, file: &str) {
     if let Ok(line) = hint_line(rt.alloc(), file) {
         let _ = eprint!(rt; "{line}");
     }
@@ -79,13 +80,13 @@ pub(crate) fn tell_way<R: AllocGlobal + Eprint>(rt: &R, file: &str) {
 /// reports how to salvage it.
 fn settle_serving<
     R: AllocGlobal + Files<File = File> + Net<Stream = TcpStream, Listener = TcpListener> + Eprint,
-    H: Herald,
+    H: Notifier,
     L: FaultLog,
 >(rt: &R, outcome: Result<u8, ServeFault>, options: &Options<'_>, watcher: &H, log: &L) -> u8 {
     match outcome {
         Ok(status) => {
             if status != 0 {
-                tell_way(rt, options.file);
+                report_way(rt, options.file);
                 log_unsound(rt.alloc(), log, options.file);
             }
             status
@@ -171,13 +172,13 @@ fn require_folder<R: AllocGlobal + Files>(
 }
 
 /// Returns the parts of the access policy of a service at an address. Checks first that the options fit the file.
-fn sound_grounds<R: AllocGlobal + Files<File = File> + KeyFiles + Fenced>(
+fn sound_access_configuration<R: AllocGlobal + Files<File = File> + KeyFiles + Fenced>(
     rt: &R,
     options: &Options<'_>,
     address: &str,
-) -> Result<Grounds, OptionsFault> {
+) -> Result<AccessConfiguration, OptionsFault> {
     require_folder(rt, options)?;
-    grounds_of(rt, options, address)
+    access_configuration_of(rt, options, address)
 }
 
 /// Checks the options, before anything is served.
@@ -185,10 +186,10 @@ fn look_over<R: AllocGlobal + Files<File = File> + KeyFiles + Fenced + Env + Clo
     rt: &R,
     options: &Options<'_>,
 ) -> Result<(), OptionsFault> {
-    let grounds = sound_grounds(rt, options, options.address)?;
-    drop(grounds);
-    let book = book_of(rt, &options.said)?;
-    drop(book);
+    let access_configuration = sound_access_configuration(rt, options, options.address)?;
+    drop(access_configuration);
+    let logging_notifier = logging_notifier_of(rt, &options.said)?;
+    drop(logging_notifier);
     Ok(())
 }
 
@@ -196,7 +197,7 @@ fn look_over<R: AllocGlobal + Files<File = File> + KeyFiles + Fenced + Env + Clo
 fn check_file<
     'a,
     R: AllocGlobal + Files<File = File> + Clone + Drop + Clock + Print + Eprint,
-    H: Herald + Sync,
+    H: Notifier + Sync,
 >(
     rt: &'a R,
     options: &Options<'_>,
@@ -232,15 +233,20 @@ fn answer_check<
         + Env
         + Clone
         + Drop,
-    H: Herald + Sync,
+    H: Notifier + Sync,
 >(rt: &R, options: &Options<'_>, watcher: &H) -> u8 {
     if let Err(fault) = look_over(rt, options) {
-        return tell_fault(rt, watcher, &Unlogged, fault);
+        return report_fault(rt, watcher, &Unlogged, fault);
     }
     let Ok(base) = copy_base(options) else {
-        return tell_fault(rt, watcher, &Unlogged, OptionsFault::Memory);
+        return report_fault(rt, watcher, &Unlogged, OptionsFault::Memory);
     };
-    warn_of_nowhere(rt.alloc(), options, options.address, &Aloud { rt });
+    warn_of_nowhere(
+        rt.alloc(),
+        options,
+        options.address,
+        &StandardErrorNotifier { rt },
+    );
     if is_folder(rt, options.file) {
         return check_rolling(rt, options, base, watcher);
     }
@@ -265,18 +271,18 @@ fn key_of<R: AllocGlobal + Files<File = File>>(
 /// Opens the operators' server, if an address for it is named.
 fn operators_of<
     R: AllocGlobal + Files<File = File> + Net<Stream = TcpStream, Listener = TcpListener> + Timed,
->(rt: &R, options: &Options<'_>) -> Result<Option<Watchpost>, PortFault> {
+>(rt: &R, options: &Options<'_>) -> Result<Option<OperatorsServer>, PortFault> {
     let Some(address) = options.said.text(Word::Operators) else {
         return Ok(None);
     };
     let key = key_of(rt, options.said.text(Word::OperatorsKey))?;
-    Ok(Some(Watchpost::open(rt, rt.alloc(), address, key)?))
+    Ok(Some(OperatorsServer::open(rt, rt.alloc(), address, key)?))
 }
 
 /// Reports why there is no operators' server, and returns the program's status.
-fn tell_port<
+fn report_port<
     R: AllocGlobal + Files<File = File> + Net<Stream = TcpStream, Listener = TcpListener> + Eprint,
-    H: Herald,
+    H: Notifier,
     L: FaultLog,
 >(rt: &R, fault: PortFault, options: &Options<'_>, watcher: &H, log: &L) -> u8 {
     let address = options.said.text(Word::Operators).unwrap_or("-");
@@ -284,10 +290,10 @@ fn tell_port<
 }
 
 /// Returns the log of a service, as its options say. It is off if they ask for none.
-fn book_of<R: AllocGlobal + Env + Clone + Drop>(
+fn logging_notifier_of<R: AllocGlobal + Env + Clone + Drop>(
     rt: &R,
-    said: &Said,
-) -> Result<Book<R>, OptionsFault> {
+    said: &RawOptions,
+) -> Result<LoggingNotifier<R>, OptionsFault> {
     let alloc = rt.alloc();
     let filter = match said.text(Word::Log) {
         None => LevelFilter::Off,
@@ -305,7 +311,7 @@ fn book_of<R: AllocGlobal + Env + Clone + Drop>(
     };
     let has_priorities = has_priorities(rt, format);
     match rt.clone() {
-        Ok(rt) => Ok(Book {
+        Ok(rt) => Ok(LoggingNotifier {
             log: Logbook::new(alloc, rt, filter, format, has_priorities),
         }),
         Err(_) => Err(OptionsFault::Memory),
@@ -335,31 +341,31 @@ fn serve_file<
         + Send
         + Clone
         + Drop,
-    H: Herald + Sync,
+    H: Notifier + Sync,
 >(
     rt: &'a R,
     address: &str,
     file: &'a str,
     base: Option<Base>,
-    terms: Terms<'_>,
+    access_policy: AccessPolicy<'_>,
     workers: u32,
     settings: Settings,
-    post: Option<&Watchpost>,
-    entry: Entry<ChildStdout>,
-    book: &Book<R>,
+    post: Option<&OperatorsServer>,
+    entry: ServiceInput<ChildStdout>,
+    logging_notifier: &LoggingNotifier<R>,
     watcher: &'a H,
-) -> Result<Served, ServeFault> {
+) -> Result<ServiceOutcome, ServeFault> {
     serve_with(
         rt,
         address,
         base,
-        terms,
+        access_policy,
         &NamedFile::told(rt, file, watcher),
         workers,
         settings,
         post,
         entry,
-        book,
+        logging_notifier,
         &mut io::writer(rt),
     )
 }
@@ -383,71 +389,77 @@ fn answer_until<
         + Send
         + Clone
         + Drop,
-    H: Herald + Sync,
+    H: Notifier + Sync,
 >(rt: &R, options: &Options<'_>, input: Option<ChildStdout>, watcher: &H) -> u8 {
     // A fault of its options is reported after all others.
-    let book = book_of(rt, &options.said);
+    let logging_notifier = logging_notifier_of(rt, &options.said);
     let post = match operators_of(rt, options) {
         Ok(post) => post,
-        Err(fault) => return tell_port(rt, fault, options, watcher, &book),
+        Err(fault) => return report_port(rt, fault, options, watcher, &logging_notifier),
     };
-    let spot = match spot_at(rt, rt.alloc(), options.address) {
-        Ok(spot) => spot,
-        Err(fault) => return settle_serving(rt, Err(fault), options, watcher, &book),
+    let bound_address = match bound_address_at(rt, rt.alloc(), options.address) {
+        Ok(bound_address) => bound_address,
+        Err(fault) => return settle_serving(rt, Err(fault), options, watcher, &logging_notifier),
     };
-    let Spot { address, listener } = spot;
-    let grounds = match sound_grounds(rt, options, address.as_str()) {
-        Ok(grounds) => grounds,
-        Err(fault) => return tell_fault(rt, watcher, &book, fault),
+    let BoundAddress { address, listener } = bound_address;
+    let access_configuration = match sound_access_configuration(rt, options, address.as_str()) {
+        Ok(access_configuration) => access_configuration,
+        Err(fault) => return report_fault(rt, watcher, &logging_notifier, fault),
     };
-    let book = match book {
-        Ok(book) => book,
-        Err(fault) => return tell_fault(rt, watcher, &Unlogged, fault),
+    let logging_notifier = match logging_notifier {
+        Ok(logging_notifier) => logging_notifier,
+        Err(fault) => return report_fault(rt, watcher, &Unlogged, fault),
     };
-    warn_of_nowhere(rt.alloc(), options, address.as_str(), &book);
-    let entry = Entry { listener, input };
+    warn_of_nowhere(rt.alloc(), options, address.as_str(), &logging_notifier);
+    let entry = ServiceInput { listener, input };
     if is_folder(rt, options.file) {
         return serve_rolling(
             rt,
             options,
             address.as_str(),
-            grounds,
+            access_configuration,
             post.as_ref(),
             entry,
-            &book,
+            &logging_notifier,
             watcher,
         );
     }
     let taken = taken_by_file(options.workers);
-    let settings = match fit_descriptors(rt, rt.alloc(), &book, taken, options.settings) {
+    let settings = match fit_descriptors(
+        rt,
+        rt.alloc(),
+        &logging_notifier,
+        taken,
+        options.settings,
+    ) {
         Ok(settings) => settings,
         Err(fault) => {
-            let status = settle_serving(rt, Err(fault), options, watcher, &book);
-            book.log.close();
+            let status = settle_serving(rt, Err(fault), options, watcher, &logging_notifier);
+            logging_notifier.log.close();
             return status;
         }
     };
-    let (base, grounds) = grounds.parted();
+    let (base, access_configuration) = access_configuration.parted();
     let served = serve_file(
         rt,
         address.as_str(),
         options.file,
         base,
-        grounds.terms(&options.also_bases),
+        access_configuration.access_policy(&options.also_bases),
         options.workers,
         settings,
         post.as_ref(),
         entry,
-        &book,
+        &logging_notifier,
         watcher,
     );
     let outcome = match served {
-        Ok(Served::Unsound(status)) => Ok(status),
-        Ok(Served::Ended) => Ok(0),
+        Ok(ServiceOutcome::Unsound(status)) => Ok(status),
+        Ok(ServiceOutcome::Ended) => Ok(0),
         Err(fault) => Err(fault),
     };
-    let status = settle_serving(rt, outcome, options, watcher, &book);
-    book.log.close();
+    let status = settle_serving(rt, outcome, options, watcher, &logging_notifier);
+    logging_notifier.log.close();
     status
 }
 
@@ -469,7 +481,7 @@ pub(crate) fn answer_serve<
         + Send
         + Clone
         + Drop,
-    H: Herald + Sync,
+    H: Notifier + Sync,
 >(rt: &R, address: &str, file: &str, workers: u32, watcher: &H) -> u8 {
     let _streams = stand_ins(rt);
     let options = Options {
@@ -479,7 +491,7 @@ pub(crate) fn answer_serve<
         settings: Settings::usual(),
         base: None,
         also_bases: Vec::new(rt.alloc()),
-        said: Said::nothing(rt.alloc()),
+        said: RawOptions::nothing(rt.alloc()),
         drains: false,
         is_restored: false,
         is_check: false,
@@ -506,7 +518,7 @@ fn answer_serving<
         + Send
         + Clone
         + Drop,
-    H: Herald + Sync,
+    H: Notifier + Sync,
 >(rt: &R, options: &Options<'_>, watcher: &H) -> u8
 where
     R::Reader: AsFd,
@@ -527,13 +539,13 @@ where
 }
 
 /// Reports a fault of options on standard error, or prints help on standard output. Returns the program's status.
-fn tell_fault<
+fn report_fault<
     R: AllocGlobal
         + Files<File = File>
         + Net<Stream = TcpStream, Listener = TcpListener>
         + Print
         + Eprint,
-    H: Herald,
+    H: Notifier,
     L: FaultLog,
 >(rt: &R, watcher: &H, log: &L, fault: OptionsFault) -> u8 {
     match fault {
@@ -574,17 +586,17 @@ pub(crate) fn answer_options<
         + Send
         + Clone
         + Drop,
-    H: Herald + Sync,
+    H: Notifier + Sync,
 >(rt: &R, words: &[String], watcher: &H) -> u8
 where
     R::Reader: AsFd,
 {
     let [_verb, rest @ ..] = words else {
-        return tell_misuse(rt, watcher, words);
+        return report_misuse(rt, watcher, words);
     };
     match read_options(rt, rest) {
         Ok(options) if options.is_check => answer_check(rt, &options, watcher),
         Ok(options) => answer_serving(rt, &options, watcher),
-        Err(fault) => tell_fault(rt, watcher, &Unlogged, fault),
+        Err(fault) => report_fault(rt, watcher, &Unlogged, fault),
     }
 }

@@ -1,16 +1,16 @@
 //! Help, listings, and following of journals.
 
-use crate::asking::{Asking, Listed};
+use crate::asking::{Asking, ListOptions};
 use crate::explaining::answer_explain;
 use crate::serving::standard_input;
 use crate::texts::HELP;
 use lra_audits::{RunFault, put, settle, tell};
 use lra_clocks::milliseconds;
 use lra_folders::{Found, find, is_folder, open_each, tell_others, width};
-use lra_follow::{Journals, Stop, follow, pause, watch_input};
+use lra_follow::{FollowedJournals, Stop, follow, pause, watch_input};
 use lra_model::Memory;
 use lra_reports::{Sources, System};
-use lra_stories::{Choice, list_run};
+use lra_timelines::{Choice, list_run};
 use std::alloc::Global;
 use std::fs::File;
 use std::io::Read;
@@ -30,7 +30,7 @@ pub(crate) fn answer_help<R: AllocGlobal + Print + Eprint>(rt: &R) -> u8 {
 
 /// Returns the choice of the actions that are listed. Returns nothing if the moment now is asked for and the clock
 /// fails.
-fn choice_of<R: Clock>(rt: &R, listed: Listed) -> Option<Choice> {
+fn choice_of<R: Clock>(rt: &R, listed: ListOptions) -> Option<Choice> {
     let now = if listed.is_now {
         Some(milliseconds(rt)?)
     } else {
@@ -60,7 +60,7 @@ fn list<R: AllocGlobal + Files + Input + Print + Eprint>(
 
 /// The listing of one of a folder's journals.
 #[derive(Drop)]
-struct Listing {
+struct FolderListing {
     name: String,
     /// Lines of each action, after the journal's name.
     text: Vec<u8>,
@@ -88,10 +88,10 @@ fn listing_of<F: Read + Drop>(
     choice: &Choice,
     name: String,
     file: Option<F>,
-) -> Listing {
+) -> FolderListing {
     let mut text = Vec::new(alloc);
     let outcome = add_listing(alloc, choice, name.as_str(), file, &mut text);
-    Listing {
+    FolderListing {
         name,
         text,
         outcome,
@@ -105,13 +105,13 @@ fn list_side_by_side<R: AllocGlobal + Files<File = File> + Threads + Input + Syn
     folder: &str,
     names: &[String],
     choice: &Choice,
-) -> Result<Vec<Listing>, Memory> {
+) -> Result<Vec<FolderListing>, Memory> {
     let alloc = rt.alloc();
     let jobs = open_each(alloc, &System { rt }, folder, names)?;
     thread::map_vec(
         rt,
         jobs,
-        &|job: (String, Option<File>)| -> Listing { listing_of(alloc, choice, job.0, job.1) },
+        &|job: (String, Option<File>)| -> FolderListing { listing_of(alloc, choice, job.0, job.1) },
     )
 }
 
@@ -119,7 +119,7 @@ fn list_side_by_side<R: AllocGlobal + Files<File = File> + Threads + Input + Syn
 fn print_listing<R: AllocGlobal + Print + Eprint>(
     rt: &R,
     folder: &str,
-    listing: &Listing,
+    listing: &FolderListing,
 ) -> Result<u8, RunFault> {
     put(&mut io::writer(rt), &listing.text)?;
     match listing.outcome {
@@ -169,7 +169,7 @@ fn answer_list<
         + Sync
         + Clone
         + Drop,
->(rt: &R, place: &str, listed: Listed) -> u8 {
+>(rt: &R, place: &str, listed: ListOptions) -> u8 {
     let Some(choice) = choice_of(rt, listed) else {
         return tell(rt, format!(in rt.alloc(); "lra: cannot read the clock\n"));
     };
@@ -209,11 +209,11 @@ fn follow_found<R: AllocGlobal + Files<File = File> + Clock + Wait + Print + Epr
     stop: &Arc<Stop>,
 ) -> Result<u8, RunFault> {
     tell_others(rt, folder, &find(rt, folder)?.others);
-    let mut journals = Journals::new(rt.alloc(), folder);
+    let mut journals = FollowedJournals::new(rt.alloc(), folder);
     for _ in rt.forever() {
         let is_last = stop.is_asked();
         let found = find(rt, folder)?;
-        let ended = journals.look(rt, &found.journals, is_last, &mut io::writer(rt))?;
+        let ended = journals.poll(rt, &found.journals, is_last, &mut io::writer(rt))?;
         if let Some(status) = ended {
             return Ok(status);
         }

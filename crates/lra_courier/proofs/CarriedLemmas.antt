@@ -12,7 +12,7 @@ use Rattle.lra_model.specs.declared.asks.Outcome.TheVariants.{Silent}
 use Rattle.lra_model.specs.Words.{outcome_suits}
 use Rattle.lra_wire.specs.declared.fault.WireFault.{WireFault}
 use Rattle.lra_wire.specs.declared.fault.WireFault.TheVariants.{BadHead, Chunked, BadLength, TooLarge, Cut, Io, Memory}
-use Rattle.lra_wire.specs.Coming.{IsWhole, IsOpen}
+use Rattle.lra_wire.specs.ResponseParse.{IsWhole, IsOpen}
 use Rattle.lra_wire.specs.Response.{IsResponse, RefusesResponse, AwaitsResponse}
 use Rattle.lra_wire.specs.Streams.{IfBothKnown}
 use Rattle.lra_courier.specs.declared.fault.CallFault.{CallFault}
@@ -133,7 +133,7 @@ replies_on closed later failed broken kind direction bytes (Err Memory) c f h = 
 pub record Follows (old new : Carried) : Type 0 where
   pub kind : new.kind ≡ old.kind
   pub direction : new.direction ≡ old.direction
-  pub sent : old.gone ≡ length old.request → new.gone ≡ length new.request
+  pub sent : old.advance_by ≡ length old.request → new.advance_by ≡ length new.request
   pub taken : new.taken ≡ old.taken
   pub closed : IsTrue old.closed → IsTrue new.closed
   pub failed : IsTrue old.failed → IsTrue new.failed
@@ -204,11 +204,12 @@ carried_took h bytes c fits = record {
     room_fits false false true n m bound h = omega (arith, bound, h)
     room_fits false false false n m bound h = omega (arith, bound, h)
 
-pub gone_fits : (h : Carried) (count : ℕ) → IsCarried h → count ≤ length (drop h.gone h.request) → h.gone + count
+pub gone_fits : (h : Carried) (count : ℕ) → IsCarried h → count ≤ length (drop h.advance_by h.request)
+    → h.advance_by + count
     ≤ length h.request
-gone_fits h count c fits = omega (arith, c.within, fits, length-drop h.gone h.request)
+gone_fits h count c fits = omega (arith, c.within, fits, length-drop h.advance_by h.request)
 
-pub carried_went : (h : Carried) (count : ℕ) → IsCarried h → count ≤ length (drop h.gone h.request)
+pub carried_went : (h : Carried) (count : ℕ) → IsCarried h → count ≤ length (drop h.advance_by h.request)
     → IsCarried (went h count)
 carried_went h count c fits = record {
   within = gone_fits h count c fits;

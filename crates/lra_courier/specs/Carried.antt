@@ -21,7 +21,7 @@ pub record Carried : Type 0 where
   pub direction : Direction
   pub request : List ℕ
   -- the number of bytes of the request that were sent
-  pub gone : ℕ
+  pub advance_by : ℕ
   -- all bytes that were accepted, whether no more come, and whether the stream has failed
   pub taken : List ℕ
   pub closed : Bool
@@ -60,7 +60,7 @@ Replies closed failed kind direction bytes (Err Memory) = ⊥
 
 -- all of the request was sent
 abbrev pub IsSent : Carried → Type 0
-IsSent h = h.gone ≡ length h.request
+IsSent h = h.advance_by ≡ length h.request
 
 -- The result, as `Converses` defines it for a request and its response: the response counts only where all of the
 -- request was sent.
@@ -72,7 +72,7 @@ Comes h (Err Unreached) = ⊥
 
 -- What is true of every callback exchange, after any calls.
 pub record IsCarried (h : Carried) : Type 0 where
-  pub within : h.gone ≤ length h.request
+  pub within : h.advance_by ≤ length h.request
   pub bound : length h.taken ≤ 1048576
   pub came : IfSome h.came (Comes h)
 
@@ -82,7 +82,7 @@ begun calling = record {
   kind = calling.kind;
   direction = calling.direction;
   request = request_bytes calling;
-  gone = 0;
+  advance_by = 0;
   taken = [];
   closed = false;
   failed = false;
@@ -95,7 +95,7 @@ room_of h = if h.closed || h.failed || is_some h.came then 0 else 1048576 - leng
 
 -- so many more bytes of the request were sent
 abbrev pub went : Carried → ℕ → Carried
-went h count = record h { gone = h.gone + count }
+went h count = record h { advance_by = h.advance_by + count }
 
 -- these bytes were accepted
 abbrev pub took : Carried → List ℕ → Carried

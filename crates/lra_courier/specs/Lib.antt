@@ -6,5 +6,5 @@ pub mod Codes
 pub mod Steps
 pub mod Sockets
 pub mod Calls
-pub mod Carriages
+pub mod CallbackPools
 pub mod inner

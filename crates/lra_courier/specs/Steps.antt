@@ -3,15 +3,15 @@ use Rattle.std.specs.Prelude.{◌≡◌, ◌⊎◌, ◌<◌, ◌≤◌, Bool, tr
 use Rattle.std.specs.Prelude.{IsFalse}
 use Rattle.std.specs.declared.alloc.AllocError.{AllocError}
 use Rattle.lra_wire.specs.Response.{AwaitsResponse}
-use Rattle.lra_courier.specs.declared.carrying.Step.{Step}
-use Rattle.lra_courier.specs.declared.carrying.Step.TheVariants.{Sends, Wants, Came}
+use Rattle.lra_courier.specs.declared.callback_exchange.Step.{Step}
+use Rattle.lra_courier.specs.declared.callback_exchange.Step.TheVariants.{Sends, NeedsInput, Came}
 use Rattle.lra_courier.specs.Carried.{Carried, IsSent, Comes, room_of, took, tells}
 
 -- What a step means for all before it, and what it changes. More bytes are wanted only where those that came are no
 -- whole response. The result of a callback stays.
 abbrev pub StepsTo : Step → Carried → Carried → Type 0
-StepsTo Sends old new = (old.came ≡ None) × IsFalse old.failed × (old.gone < length old.request) × (new ≡ old)
-StepsTo Wants old new = (old.came ≡ None) × IsFalse old.failed × IsFalse old.closed × IsSent old
+StepsTo Sends old new = (old.came ≡ None) × IsFalse old.failed × (old.advance_by < length old.request) × (new ≡ old)
+StepsTo NeedsInput old new = (old.came ≡ None) × IsFalse old.failed × IsFalse old.closed × IsSent old
     × AwaitsResponse old.taken × (length old.taken < 1048576) × (new ≡ old)
 StepsTo (Came told) old new = ((old.came ≡ None) ⊎ (old.came ≡ Some told)) × Comes old told × (new ≡ tells old told)
 

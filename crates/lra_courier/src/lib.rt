@@ -2,9 +2,9 @@
 #![tactic(auto)]
 
 mod callback;
+mod callback_exchange;
+mod callback_pool;
 mod calling;
-mod carriage;
-mod carrying;
 mod conversing;
 mod courier;
 mod dialler;
@@ -18,9 +18,9 @@ mod told;
 mod writing;
 
 pub use callback::Callback;
+pub use callback_exchange::{CallbackExchange, Step, replies_are_answers};
+pub use callback_pool::CallbackPool;
 pub use calling::DiallingCourier;
-pub use carriage::Carriage;
-pub use carrying::{Carrying, Step, replies_are_answers};
 pub use courier::Courier;
 pub use dialler::Dialler;
 pub use exchanging::{exchange, receive, send};

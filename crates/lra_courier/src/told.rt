@@ -2,14 +2,14 @@
 ghost use Rattle.std.specs.Prelude.{◌≡◌, true, false, IfOk, IfSome, IsTrue};
 ghost use Rattle.lra_courier.specs.Replies.{classify};
 ghost use Rattle.lra_model.specs.Words.{outcome_suits};
-ghost use Rattle.lra_wire.specs.Seen.{SeesResponse};
+ghost use Rattle.lra_wire.specs.RequestCursor.{SeesResponse};
 ghost use Rattle.lra_courier.specs.Codes.{HasCode};
 ghost use Rattle.lra_courier.specs.inner.Told.{TellsSoFar, TellsAtEnd, Looks};
 
 use crate::reply::classify;
 use lra_model::{AskKind, Direction, Memory, Outcome};
 use lra_wire::{
-    Coming, Inbox, ResponseRead, SeenResponse, WireFault, read_response, response_front,
+    Inbox, ResponseCursor, ResponseParse, ResponseRead, WireFault, read_response, response_front,
     response_front_seen,
 };
 use std::alloc::{AllocError, Global};
@@ -26,7 +26,7 @@ pub(crate) struct Asked {
 fn told_so_far(
     alloc: Global,
     bytes: &[u8],
-    seen: &mut SeenResponse,
+    seen: &mut ResponseCursor,
     asked: Asked,
 ) -> Result<Option<Result<Outcome, WireFault>>, Memory>
     requires { SeesResponse seen.old bytes.now }
@@ -34,8 +34,8 @@ fn told_so_far(
     ensures tells { TellsSoFar asked.kind asked.direction bytes.now result }
 {
     match response_front_seen(alloc, bytes, seen) {
-        Ok(Coming::Whole(response, _)) => Ok(Some(Ok(asked.outcome(&response)))),
-        Ok(Coming::Open(_)) => Ok(None),
+        Ok(ResponseParse::Whole(response, _)) => Ok(Some(Ok(asked.outcome(&response)))),
+        Ok(ResponseParse::Open(_)) => Ok(None),
         Err(fault) => {
             if fault == WireFault::Memory {
                 return Err(AllocError);
@@ -71,7 +71,7 @@ fn told_at_end(
 pub(crate) fn look(
     alloc: Global,
     bytes: &[u8],
-    seen: &mut SeenResponse,
+    seen: &mut ResponseCursor,
     closed: bool,
     failed: bool,
     asked: Asked,
@@ -97,7 +97,7 @@ fn code_ahead(alloc: Global, bytes: &[u8]) -> Result<Option<u16>, Memory>
     ensures { IfOk result (λ code. IfSome code (HasCode false bytes.now)) }
 {
     match response_front(alloc, bytes) {
-        Ok(Coming::Whole(response, _)) => Ok(Some(response.code)),
+        Ok(ResponseParse::Whole(response, _)) => Ok(Some(response.code)),
         Err(WireFault::Memory) => Err(AllocError),
         _ => Ok(None),
     }

@@ -1,7 +1,7 @@
 //! Syncs that several threads wait for.
 
-use crate::platter::{Begun, Pen, Platter, Spinning, begin, begin_beside};
-use lra_durable::{Journals, Keeper, Progress, SyncGroup, Unkept};
+use crate::platter::{AppendHandle, Begun, Platter, Spinning, begin, begin_beside};
+use lra_durable::{JournalWriter, Journals, Progress, SyncFault, SyncGroup};
 use lra_model::Instance;
 use std::alloc::Global;
 use std::io::Write;
@@ -30,16 +30,16 @@ fn write_both<R: Wait>(
     rt: &R,
     platter: &Platter,
     progress: &Arc<Progress<Spinning>>,
-    pen: Pen,
+    append_handle: AppendHandle,
     is_broken: bool,
 ) -> bool {
     let Ok(told) = progress.clone() else {
         return false;
     };
-    let mut keeper = Keeper::new(rt, told, pen, u64::MAX);
-    let first = keeper.write_all(b"ab").is_ok();
+    let mut journal_writer = JournalWriter::new(rt, told, append_handle, u64::MAX);
+    let first = journal_writer.write_all(b"ab").is_ok();
     platter.wait_for_syncs(2);
-    let second = keeper.write_all(b"cde").is_ok();
+    let second = journal_writer.write_all(b"cde").is_ok();
     let is_early = progress.kept(rt, progress.taken(rt)) != Ok(None);
     platter.set(is_broken, false);
     first && second && !is_early
@@ -50,7 +50,7 @@ fn write_both<R: Wait>(
 fn share<R: Threads + Wait + Sync>(rt: &R, alloc: Global, is_broken: bool) -> Option<Told> {
     let Begun {
         platter,
-        pen,
+        append_handle,
         progress,
         ..
     } = begin(rt, alloc, 100, false)?;
@@ -58,7 +58,7 @@ fn share<R: Threads + Wait + Sync>(rt: &R, alloc: Global, is_broken: bool) -> Op
     let (first, went_on) = join(
         rt,
         || wait(rt, &platter, &progress, 2),
-        || write_both(rt, &platter, &progress, pen, is_broken),
+        || write_both(rt, &platter, &progress, append_handle, is_broken),
     );
     let (second, third) = join(
         rt,
@@ -94,18 +94,29 @@ struct Two {
 }
 
 /// Returns a group of two journals that weren't synced, and the writer of the second one, which has that number.
-fn begin_two<R: Wait>(rt: &R, alloc: Global, number: u64) -> Option<(Two, Keeper<&R, Spinning>)> {
+fn begin_two<R: Wait>(
+    rt: &R,
+    alloc: Global,
+    number: u64,
+) -> Option<(Two, JournalWriter<&R, Spinning>)> {
     let Begun {
         platter,
-        pen,
+        append_handle,
         progress,
         group,
         instance,
     } = begin(rt, alloc, 100, false)?;
     let second = Instance::new(number)?;
-    let (other_platter, other_pen, other_progress) = begin_beside(rt, alloc, &group, second)?;
-    let mut one = Keeper::new(rt, progress, pen, u64::MAX);
-    let mut other = Keeper::new(rt, other_progress.clone().ok()?, other_pen, u64::MAX);
+    let (other_platter, other_append_handle, other_progress) = begin_beside(
+        rt, alloc, &group, second,
+    )?;
+    let mut one = JournalWriter::new(rt, progress, append_handle, u64::MAX);
+    let mut other = JournalWriter::new(
+        rt,
+        other_progress.clone().ok()?,
+        other_append_handle,
+        u64::MAX,
+    );
     one.write_all(b"ab").ok()?;
     other.write_all(b"cde").ok()?;
     let two = Two {
@@ -166,14 +177,14 @@ fn each_journal_is_as_durable_as_it_is(rt: HostRuntime) {
 fn ends_whole<R: Wait>(rt: &R, alloc: Global) -> Option<bool> {
     let Begun {
         platter,
-        pen,
+        append_handle,
         progress,
         group,
         instance,
     } = begin(rt, alloc, 100, false)?;
-    let mut keeper = Keeper::new(rt, progress, pen, u64::MAX);
-    keeper.write_all(b"abc").ok()?;
-    drop(keeper);
+    let mut journal_writer = JournalWriter::new(rt, progress, append_handle, u64::MAX);
+    journal_writer.write_all(b"abc").ok()?;
+    drop(journal_writer);
     let ended = group.end(rt, instance) == Ok(Some(3));
     let kept = group.kept(rt, instance, 3) == Ok(Some(3));
     let past = group.keep(rt, instance, 4) == Ok(None);
@@ -190,9 +201,9 @@ fn fails_together<R: Wait>(rt: &R, alloc: Global) -> Option<bool> {
     let (two, mut other) = begin_two(rt, alloc, 9)?;
     let group = &two.group;
     two.platter.set(true, false);
-    let failed = group.keep(rt, two.first, 2) == Err(Unkept);
-    let known = group.kept(rt, two.second, 0) == Err(Unkept)
-        && group.keep(rt, two.second, 3) == Err(Unkept);
+    let failed = group.keep(rt, two.first, 2) == Err(SyncFault);
+    let known = group.kept(rt, two.second, 0) == Err(SyncFault)
+        && group.keep(rt, two.second, 3) == Err(SyncFault);
     let shut = other.write_all(b"f").is_err()
         && two.other_progress.has_failed(rt)
         && group.has_failed(rt);

@@ -7,15 +7,15 @@ use std::alloc::Global;
 
 /// Number of entries so far, and the status of each action, in the order of the actions' numbers.
 #[derive(Drop)]
-pub struct Counts {
+pub struct FollowCounts {
     entries: u64,
     statuses: Vec<ActionStatus>,
 }
 
-impl Counts {
+impl FollowCounts {
     /// Makes counts of no entry.
-    pub fn new(alloc: Global) -> Counts {
-        Counts {
+    pub fn new(alloc: Global) -> FollowCounts {
+        FollowCounts {
             entries: 0,
             statuses: Vec::new(alloc),
         }
@@ -50,7 +50,7 @@ impl Counts {
     }
 }
 
-impl Follower for Counts {
+impl Follower for FollowCounts {
     ghost use Rattle.std.specs.Prelude.{⊤};
 
     ghost hears = { λ _ _. ⊤ };

@@ -1,7 +1,7 @@
 //! One journal that is followed, and what was reported of it.
 
 use crate::texts::{Lost, lost_line, sound_line};
-use crate::watch::{Extent, Seen, Watch};
+use crate::watch::{Extent, PollResult, WatchedFile};
 use lra_auditor::FaultyLine;
 use lra_audits::{RunFault, put, report_fault, tell};
 use std::alloc::Global;
@@ -18,7 +18,7 @@ pub(crate) struct Followed {
     alloc: Global,
     /// Text before each line that is written of the journal.
     front: String,
-    watch: Watch,
+    watch: WatchedFile,
     /// Number of entries in the last line that was written of the journal, if any was.
     told: Option<u64>,
     /// Number of polls since that line.
@@ -33,7 +33,7 @@ impl Followed {
         path: &str,
         front: String,
     ) -> Result<Followed, RunFault> {
-        let watch = Watch::new(rt, alloc, path)?;
+        let watch = WatchedFile::new(rt, alloc, path)?;
         Ok(Followed {
             alloc,
             front,
@@ -44,8 +44,8 @@ impl Followed {
     }
 
     /// Polls the journal: reads all that its file has now.
-    pub(crate) fn look<R: Files<File = File>>(&mut self, rt: &R) -> Result<Seen, RunFault> {
-        self.watch.look(rt)
+    pub(crate) fn poll<R: Files<File = File>>(&mut self, rt: &R) -> Result<PollResult, RunFault> {
+        self.watch.poll(rt)
     }
 
     /// Returns which file was read, and how many bytes of it.
@@ -69,8 +69,8 @@ impl Followed {
 
     /// Returns the number of entries so far, or None before the first whole line.
     fn entries(&self) -> Option<u64> {
-        match self.watch.tail() {
-            Some(tail) if tail.fed() > 0 => Some(tail.counts().entries()),
+        match self.watch.file_tail() {
+            Some(file_tail) if file_tail.fed() > 0 => Some(file_tail.counts().entries()),
             _ => None,
         }
     }
@@ -82,10 +82,10 @@ impl Followed {
 
     /// Writes that the journal has been sound so far.
     fn say_sound<W: Write>(&self, writer: &mut W) -> Result<(), RunFault> {
-        let Some(tail) = self.watch.tail() else {
+        let Some(file_tail) = self.watch.file_tail() else {
             return Err(RunFault::Memory);
         };
-        let line = sound_line(self.alloc, tail.counts())?;
+        let line = sound_line(self.alloc, file_tail.counts())?;
         put(writer, self.front.as_bytes())?;
         put(writer, line.as_bytes())?;
         writer.flush().map_err(|_| RunFault::Write)
@@ -93,7 +93,7 @@ impl Followed {
 
     /// Writes that the journal has been sound so far, if there are entries that weren't reported. Does so every `LOOKS`
     /// polls at most, and at the last poll.
-    fn tell_sound<W: Write>(&mut self, is_last: bool, writer: &mut W) -> Result<(), RunFault> {
+    fn report_sound<W: Write>(&mut self, is_last: bool, writer: &mut W) -> Result<(), RunFault> {
         self.looks = self.looks.saturating_add(1);
         if !self.is_told() && (is_last || self.looks >= LOOKS) {
             self.say_sound(writer)?;
@@ -110,7 +110,7 @@ impl Followed {
     }
 
     /// Writes to standard error why the journal can't be followed any more. Returns the program's status.
-    fn tell_lost<R: Eprint>(&self, rt: &R, lost: Lost) -> u8 {
+    fn report_lost<R: Eprint>(&self, rt: &R, lost: Lost) -> u8 {
         tell(rt, lost_line(self.alloc, self.watch.path(), lost))
     }
 
@@ -118,17 +118,17 @@ impl Followed {
     pub(crate) fn tell<R: Eprint, W: Write>(
         &mut self,
         rt: &R,
-        seen: Seen,
+        seen: PollResult,
         is_last: bool,
         writer: &mut W,
     ) -> Result<Option<u8>, RunFault> {
         match seen {
-            Seen::Read => {
-                self.tell_sound(is_last, writer)?;
+            PollResult::Read => {
+                self.report_sound(is_last, writer)?;
                 Ok(None)
             }
-            Seen::Unsound(fault) => Ok(Some(self.tell_fault(fault, writer)?)),
-            Seen::Lost(lost) => Ok(Some(self.tell_lost(rt, lost))),
+            PollResult::Unsound(fault) => Ok(Some(self.tell_fault(fault, writer)?)),
+            PollResult::Lost(lost) => Ok(Some(self.report_lost(rt, lost))),
         }
     }
 }

@@ -2,7 +2,7 @@
 
 use crate::followed::Followed;
 use crate::texts::Lost;
-use crate::watch::{Extent, Seen, extent_of};
+use crate::watch::{Extent, PollResult, extent_of};
 use lra_audits::{RunFault, settle};
 use lra_model::Memory;
 use std::alloc::Global;
@@ -15,7 +15,7 @@ const ENDED: &str = "ended/";
 
 /// Journal of a folder.
 #[derive(Drop)]
-struct Journal {
+struct FollowedJournal {
     /// Journal's name in the folder.
     name: String,
     /// Journal as it is followed. None before the first poll, and once the journal is archived and all of it was
@@ -51,10 +51,10 @@ fn begin<R: AllocGlobal + Files<File = File>>(
     }
 }
 
-impl Journal {
+impl FollowedJournal {
     /// Makes a journal that wasn't polled yet.
-    fn new(alloc: Global, name: &str) -> Result<Journal, Memory> {
-        Ok(Journal {
+    fn new(alloc: Global, name: &str) -> Result<FollowedJournal, Memory> {
+        Ok(FollowedJournal {
             name: String::from_str(alloc, name)?,
             followed: None,
             extent: None,
@@ -92,29 +92,29 @@ impl Journal {
         folder: &str,
         path: &str,
         followed: &mut Followed,
-    ) -> Result<Seen, RunFault> {
+    ) -> Result<PollResult, RunFault> {
         let alloc = rt.alloc();
         if self.is_ended() {
             self.is_gone = extent_of(rt, path).is_none();
             return Ok(if self.is_gone {
-                Seen::Read
+                PollResult::Read
             } else {
-                Seen::Lost(Lost::Replaced)
+                PollResult::Lost(Lost::Replaced)
             });
         }
         let name = path_of(alloc, "ended", self.name.as_str())?;
         let path = path_of(alloc, folder, name.as_str())?;
         let front = front_of(alloc, name.as_str())?;
         if !followed.moves_to(rt, path, front) {
-            return Ok(Seen::Lost(Lost::Replaced));
+            return Ok(PollResult::Lost(Lost::Replaced));
         }
         self.name = name;
-        followed.look(rt)
+        followed.poll(rt)
     }
 
     /// Polls the journal at a path, and writes the outcome. Returns the program's status if the program ends by that
     /// outcome.
-    fn look_on<R: AllocGlobal + Files<File = File> + Eprint, W: Write>(
+    fn poll_next<R: AllocGlobal + Files<File = File> + Eprint, W: Write>(
         &mut self,
         rt: &R,
         folder: &str,
@@ -126,8 +126,8 @@ impl Journal {
         let Some(mut followed) = self.followed.take() else {
             return Ok(None);
         };
-        let seen = match followed.look(rt)? {
-            Seen::Lost(Lost::Replaced) => self.see_moved(rt, folder, path, &mut followed)?,
+        let seen = match followed.poll(rt)? {
+            PollResult::Lost(Lost::Replaced) => self.see_moved(rt, folder, path, &mut followed)?,
             seen => seen,
         };
         let status = followed.tell(rt, seen, is_last, writer)?;
@@ -142,7 +142,7 @@ impl Journal {
 
     /// Polls the journal, and writes the outcome. Returns the program's status if the program ends by that outcome.
     /// Writes a fault to standard error, with the journal's path.
-    fn look<R: AllocGlobal + Files<File = File> + Eprint, W: Write>(
+    fn poll<R: AllocGlobal + Files<File = File> + Eprint, W: Write>(
         &mut self,
         rt: &R,
         folder: &str,
@@ -150,7 +150,7 @@ impl Journal {
         writer: &mut W,
     ) -> Result<Option<u8>, RunFault> {
         let path = path_of(rt.alloc(), folder, self.name.as_str())?;
-        match self.look_on(rt, folder, path.as_str(), is_last, writer) {
+        match self.poll_next(rt, folder, path.as_str(), is_last, writer) {
             Ok(status) => Ok(status),
             Err(fault) => Ok(Some(settle(rt, Err(fault), path.as_str()))),
         }
@@ -159,16 +159,16 @@ impl Journal {
 
 /// Journals of a folder that are followed, in the order of their names.
 #[derive(Drop)]
-pub struct Journals<'a> {
+pub struct FollowedJournals<'a> {
     alloc: Global,
     folder: &'a str,
-    all: Vec<Journal>,
+    all: Vec<FollowedJournal>,
 }
 
-impl<'a> Journals<'a> {
+impl<'a> FollowedJournals<'a> {
     /// Makes a set of no journals yet.
-    pub fn new(alloc: Global, folder: &'a str) -> Journals<'a> {
-        Journals {
+    pub fn new(alloc: Global, folder: &'a str) -> FollowedJournals<'a> {
+        FollowedJournals {
             alloc,
             folder,
             all: Vec::new(alloc),
@@ -176,14 +176,14 @@ impl<'a> Journals<'a> {
     }
 
     /// Polls the journals that were there at the last poll, and drops those whose files aren't there any more.
-    fn look_at_known<R: AllocGlobal + Files<File = File> + Eprint, W: Write>(
+    fn poll_known<R: AllocGlobal + Files<File = File> + Eprint, W: Write>(
         &mut self,
         rt: &R,
         is_last: bool,
         writer: &mut W,
     ) -> Result<Option<u8>, RunFault> {
         for journal in self.all.iter_mut() {
-            if let Some(status) = journal.look(rt, self.folder, is_last, writer)? {
+            if let Some(status) = journal.poll(rt, self.folder, is_last, writer)? {
                 return Ok(Some(status));
             }
         }
@@ -207,8 +207,8 @@ impl<'a> Journals<'a> {
         let Err(place) = found else {
             return Ok(None);
         };
-        let mut journal = Journal::new(self.alloc, name)?;
-        let status = journal.look(rt, self.folder, is_last, writer)?;
+        let mut journal = FollowedJournal::new(self.alloc, name)?;
+        let status = journal.poll(rt, self.folder, is_last, writer)?;
         match self.all.insert(place, journal) {
             Ok(()) => Ok(status),
             Err(_) => Err(RunFault::Memory),
@@ -217,14 +217,14 @@ impl<'a> Journals<'a> {
 
     /// Polls each journal, and those of these names that are new. Returns the program's status if the program ends by
     /// an outcome.
-    pub fn look<R: AllocGlobal + Files<File = File> + Eprint, W: Write>(
+    pub fn poll<R: AllocGlobal + Files<File = File> + Eprint, W: Write>(
         &mut self,
         rt: &R,
         names: &[String],
         is_last: bool,
         writer: &mut W,
     ) -> Result<Option<u8>, RunFault> {
-        if let Some(status) = self.look_at_known(rt, is_last, writer)? {
+        if let Some(status) = self.poll_known(rt, is_last, writer)? {
             return Ok(Some(status));
         }
         for name in names {

@@ -2,15 +2,15 @@
 #![tactic(auto)]
 
 mod counts;
+mod file_tail;
 mod followed;
 mod journals;
 mod program;
-mod tail;
 mod texts;
 mod watch;
 
-pub use counts::Counts;
-pub use journals::Journals;
+pub use counts::FollowCounts;
+pub use file_tail::AuditedTail;
+pub use journals::FollowedJournals;
 pub use program::{Stop, follow, pause, watch_input};
-pub use tail::Tail;
 pub use texts::{Lost, lost_line, sound_line};

@@ -98,7 +98,7 @@ fn follow_to<R: AllocGlobal + Files<File = File> + Clock + Wait + Eprint, W: Wri
     let mut journal = Followed::new(rt, alloc, file, String::new(alloc))?;
     for _ in rt.forever() {
         let is_last = stop.is_asked();
-        let seen = journal.look(rt)?;
+        let seen = journal.poll(rt)?;
         if let Some(status) = journal.tell(rt, seen, is_last, writer)? {
             return Ok(status);
         }

@@ -1,6 +1,6 @@
 //! Lines that report on a journal that is followed.
 
-use crate::counts::Counts;
+use crate::counts::FollowCounts;
 use lra_model::Memory;
 use std::alloc::Global;
 
@@ -14,7 +14,7 @@ pub enum Lost {
 }
 
 /// Returns the line that reports a journal that has been sound so far.
-pub fn sound_line(alloc: Global, counts: &Counts) -> Result<String, Memory> {
+pub fn sound_line(alloc: Global, counts: &FollowCounts) -> Result<String, Memory> {
     let entries = counts.entries();
     let actions = counts.actions();
     let unended = counts.unended();

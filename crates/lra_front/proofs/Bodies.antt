@@ -7,8 +7,8 @@ use Rattle.std.proofs.lemmas.Str.{is_utf8-from_IsUtf8, IsUtf8-from_is_utf8}
 use Rattle.serde_json.specs.Data.{Data, Members, no_members, object}
 use Rattle.serde_json.specs.declared.value.Value.{Value}
 use Rattle.serde_json.specs.View.{view}
-use Rattle.lra_front.specs.declared.denial.Denial.{Denial}
-use Rattle.lra_front.specs.declared.denial.Denial.TheVariants.{BadBody}
+use Rattle.lra_front.specs.declared.api_error.ApiError.{ApiError}
+use Rattle.lra_front.specs.declared.api_error.ApiError.TheVariants.{BadBody}
 use Rattle.lra_front.specs.inner.Reads.{ReadsObject, ReadsBody}
 use Rattle.serde_json.specs.Read.{read}
 use Rattle.serde_json.specs.Find.{as_object}
@@ -106,7 +106,7 @@ pub unread : (r : Operation) (b : List ℕ) (v : Value) → reads_body r ≡ fal
 unread r b v e is = let blank = body_unread r b e in
     (blank ∙ rw is refl, some_of (body_of r b) (Some no_members) blank refl)
 
-pub read_denied : (r : Operation) (b : List ℕ) (d : Denial) → reads_body r ≡ true → ReadsObject b (Err d)
+pub read_denied : (r : Operation) (b : List ℕ) (d : ApiError) → reads_body r ≡ true → ReadsObject b (Err d)
     → ReadsBody r b (Err d)
 read_denied r b d e (inl memory) = inl (e, memory)
 read_denied r b d e (inr (bad, none)) = inr (bad, body_read r b None e none)

@@ -8,8 +8,8 @@ use Rattle.lra_commands.specs.declared.counter.CounterFault.{CounterFault}
 use Rattle.lra_commands.specs.Counters.{Sight, KeepsHistory, terms_of, call_of, entries_under, added_by}
 use Rattle.lra_commands.proofs.Writers.{counters_write}
 use Rattle.lra_front.specs.declared.answer.Answer.{Answer}
-use Rattle.lra_front.specs.declared.denial.Denial.{Denial}
-use Rattle.lra_front.specs.declared.wish.Wish.{Wish}
+use Rattle.lra_front.specs.declared.api_error.ApiError.{ApiError}
+use Rattle.lra_front.specs.declared.api_request.ApiRequest.{ApiRequest}
 use Rattle.lra_front.specs.Serving.{Does}
 use Rattle.lra_front.specs.Transcripts.{Turn, Chain, IsAdded, AreAdded, AreWrittenInTurn}
 
@@ -18,10 +18,11 @@ module _ (K : Type 0) (gives : Sight → ℕ → Order → Result Told CounterFa
     (keeps : (before after : Sight) (moment : ℕ) (o : Order) (reply : Result Told CounterFault)
     → gives before moment o reply after → KeepsHistory before moment o reply after) where
   -- what one request adds, and that its clerk keeps its number
-  one_added : (v : Sight) (moment : ℕ) (w : Result Wish Denial) (u : Sight) (a : Answer) (h : Does gives v moment w u a)
+  one_added : (v : Sight) (moment : ℕ) (w : Result ApiRequest ApiError) (u : Sight) (a : Answer)
+      (h : Does gives v moment w u a)
       → (added : History) × IsAdded gives tells v moment w u a h added × (u.number ≡ v.number)
       × (entries_under v.number u.seen ≡ entries_under v.number v.seen ++ added)
-  one_added v moment (Ok wish) u a h =
+  one_added v moment (Ok api_request) u a h =
       let kept = keeps v u moment h.order h.reply h.given in
       let once = counters_write v u moment h.order h.reply kept in (
         added_by (terms_of v.setting) once.met (call_of v.number moment h.order) h.reply,
@@ -29,7 +30,7 @@ module _ (K : Type 0) (gives : Sight → ℕ → Order → Result Told CounterFa
         kept.same.number,
         once.written,
       )
-  one_added v moment (Err denial) u a h = (
+  one_added v moment (Err api_error) u a h = (
     [],
     refl,
     ap (λ (x : Sight). x.number) h.1,

@@ -1,8 +1,8 @@
 mod Routing
 mod Replying
 mod Bodies
-mod Wishing
-mod Responding
+mod Requesting
+mod TimedRequest
 mod Streaming
 pub mod Transcribed
 mod InTurn

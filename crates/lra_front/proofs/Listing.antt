@@ -29,32 +29,41 @@ use Rattle.lra_commands.specs.Counters.{Sight, KeepsHistory, IsRefusedAt, call_o
 use Rattle.lra_commands.proofs.Grounds.{names, other_first}
 use Rattle.lra_front.specs.declared.operation.Operation.{Operation}
 use Rattle.lra_front.specs.declared.operation.Operation.TheVariants as operation
-use Rattle.lra_front.specs.declared.denial.Denial.{Denial}
-use Rattle.lra_front.specs.declared.denial.Denial.TheVariants as denial
+use Rattle.lra_front.specs.declared.api_error.ApiError.{ApiError}
+use Rattle.lra_front.specs.declared.api_error.ApiError.TheVariants as api_error
 use Rattle.lra_front.specs.declared.answer.Answer.{Answer}
 use Rattle.lra_front.specs.declared.answer.Answer.TheVariants as answer
-use Rattle.lra_front.specs.declared.wish.Wish.{Wish}
-use Rattle.lra_front.specs.declared.wish.Wish.TheVariants as wish
+use Rattle.lra_front.specs.declared.api_request.ApiRequest.{ApiRequest}
+use Rattle.lra_front.specs.declared.api_request.ApiRequest.TheVariants as api_request
 use Rattle.lra_front.specs.Operations.{refusals}
 use Rattle.lra_front.specs.Routes.{operation_of, id_in}
 use Rattle.lra_front.specs.Bodies.{body_of, text_under}
-use Rattle.lra_front.specs.Wishes.{no_action, no_member, limit_in, IsNamed, IsOfAction, IsOfMember, IsWish, MayAsk}
-use Rattle.lra_front.specs.Wishes.{IsOrder}
-use Rattle.lra_front.specs.Replies.{refusal_code, denial_code}
+use Rattle.lra_front.specs.ApiRequests.{
+  no_action,
+  no_member,
+  limit_in,
+  IsNamed,
+  IsOfAction,
+  IsOfMember,
+  IsApiRequest,
+  MayAsk,
+}
+use Rattle.lra_front.specs.ApiRequests.{IsOrder}
+use Rattle.lra_front.specs.Replies.{refusal_code, api_error_code}
 use Rattle.lra_front.specs.Serving.{Answers, TellsOf, Responds}
 use Rattle.lra_front.specs.Listed.{has_code, is_listed, RepliesAreListed}
 
 -- the operation that asks for it
-abbrev asked_by : Wish → Operation
-asked_by (wish.Start parent limit) = operation.Start
-asked_by (wish.Join action uris) = operation.Join
-asked_by (wish.Leave action m) = operation.Remove
-asked_by (wish.Close action) = operation.Close
-asked_by (wish.Cancel action) = operation.Cancel
-asked_by (wish.Renew action limit) = operation.Renew
-asked_by (wish.Status action) = operation.Status
-asked_by (wish.Report m e) = operation.Report
-asked_by (wish.MemberStatus m) = operation.MemberStatus
+abbrev asked_by : ApiRequest → Operation
+asked_by (api_request.Start parent limit) = operation.Start
+asked_by (api_request.Join action uris) = operation.Join
+asked_by (api_request.Leave action m) = operation.Remove
+asked_by (api_request.Close action) = operation.Close
+asked_by (api_request.Cancel action) = operation.Cancel
+asked_by (api_request.Renew action limit) = operation.Renew
+asked_by (api_request.Status action) = operation.Status
+asked_by (api_request.Report m e) = operation.Report
+asked_by (api_request.MemberStatus m) = operation.MemberStatus
 
 -- each operation has refusals that bear on all
 unavailable : (o : Operation) → has_code 503 (refusals o) ≡ true
@@ -71,31 +80,31 @@ unavailable operation.Report = refl
 -- ---- what is asked for
 
 -- the operation makes the API request, or the table has the code of the API error
-abbrev IsOf : Operation → Result Wish Denial → Type 0
+abbrev IsOf : Operation → Result ApiRequest ApiError → Type 0
 IsOf o (Ok w) = asked_by w ≡ o
-IsOf o (Err d) = has_code (denial_code d) (refusals o) ≡ true
+IsOf o (Err d) = has_code (api_error_code d) (refusals o) ≡ true
 
-moved : (o : Operation) (v w : Result Wish Denial) → w ≡ v → IsOf o v → IsOf o w
-moved o v w e h = let P : Result Wish Denial → Type 0 = λ x. IsOf o x in subst P (sym e) h
+moved : (o : Operation) (v w : Result ApiRequest ApiError) → w ≡ v → IsOf o v → IsOf o w
+moved o v w e h = let P : Result ApiRequest ApiError → Type 0 = λ x. IsOf o x in subst P (sym e) h
 
-by_name : (o : Operation) (spelled : ℕ → List ℕ) (text : List ℕ) (none : Denial)
-    (Next : ℕ → Result Wish Denial → Type 0) (w : Result Wish Denial)
-    → has_code (denial_code none) (refusals o) ≡ true → ((n : ℕ) → Next n w → IsOf o w)
+by_name : (o : Operation) (spelled : ℕ → List ℕ) (text : List ℕ) (none : ApiError)
+    (Next : ℕ → Result ApiRequest ApiError → Type 0) (w : Result ApiRequest ApiError)
+    → has_code (api_error_code none) (refusals o) ≡ true → ((n : ℕ) → Next n w → IsOf o w)
     → IsNamed spelled text none Next w → IsOf o w
 by_name o spelled text none Next w listed next (inl (n, is, h)) = next n h
 by_name o spelled text none Next w listed next (inr (other, e)) = moved o (Err none) w e listed
 
-by_start : (i : ℕ) (base : List ℕ) (parent : Option (List ℕ)) (limit : ℕ) (w : Result Wish Denial)
-    → MatchOption parent (w ≡ Ok (wish.Start None limit))
-    (λ uri. IsNamed (action_uri i base) uri no_action (λ n v. v ≡ Ok (wish.Start (Some n) limit)) w)
+by_start : (i : ℕ) (base : List ℕ) (parent : Option (List ℕ)) (limit : ℕ) (w : Result ApiRequest ApiError)
+    → MatchOption parent (w ≡ Ok (api_request.Start None limit))
+    (λ uri. IsNamed (action_uri i base) uri no_action (λ n v. v ≡ Ok (api_request.Start (Some n) limit)) w)
     → IsOf operation.Start w
-by_start i base None limit w h = moved operation.Start (Ok (wish.Start None limit)) w h refl
+by_start i base None limit w h = moved operation.Start (Ok (api_request.Start None limit)) w h refl
 by_start i base (Some uri) limit w h =
-    by_name operation.Start (action_uri i base) uri no_action (λ n v. v ≡ Ok (wish.Start (Some n) limit)) w refl
-    (λ n e. moved operation.Start (Ok (wish.Start (Some n) limit)) w e refl) h
+    by_name operation.Start (action_uri i base) uri no_action (λ n v. v ≡ Ok (api_request.Start (Some n) limit)) w refl
+    (λ n e. moved operation.Start (Ok (api_request.Start (Some n) limit)) w e refl) h
 
-by_operation : (i : ℕ) (base id : List ℕ) (ms : Members) (o : Operation) (w : Result Wish Denial)
-    → IsWish i base id ms o w → IsOf o w
+by_operation : (i : ℕ) (base id : List ℕ) (ms : Members) (o : Operation) (w : Result ApiRequest ApiError)
+    → IsApiRequest i base id ms o w → IsOf o w
 by_operation i base id ms operation.Start w h = by_start i base (text_under (codes "parent") ms) (limit_in ms) w h
 by_operation i base id ms operation.Status w h =
     by_name operation.Status (id_text i) id no_action (IsOfAction i base ms operation.Status) w refl
@@ -115,8 +124,8 @@ by_operation i base id ms operation.Renew w h =
 by_operation i base id ms operation.Remove w h =
     by_name operation.Remove (id_text i) id no_action (IsOfAction i base ms operation.Remove) w refl
     (λ n. by_name operation.Remove (recovery_uri i base) (unwrap_or (text_under (codes "recovery") ms) []) no_member
-    (λ m v. v ≡ Ok (wish.Leave n m)) w refl
-    (λ m e. moved operation.Remove (Ok (wish.Leave n m)) w e refl))
+    (λ m v. v ≡ Ok (api_request.Leave n m)) w refl
+    (λ m e. moved operation.Remove (Ok (api_request.Leave n m)) w e refl))
     h
 by_operation i base id ms operation.MemberStatus w h =
     by_name operation.MemberStatus (id_text i) id no_member (IsOfMember ms operation.MemberStatus) w refl
@@ -126,16 +135,16 @@ by_operation i base id ms operation.Report w h =
     (λ n e. moved operation.Report _ w e refl) h
 
 -- what a body asks for, and that it isn't one that is read
-abbrev AsksBy : ℕ → List ℕ → List ℕ → Operation → Result Wish Denial → Option Members → Type 0
-AsksBy i base id o w body = MatchOption body (w ≡ Err denial.BadBody) (λ ms. IsWish i base id ms o w)
+abbrev AsksBy : ℕ → List ℕ → List ℕ → Operation → Result ApiRequest ApiError → Option Members → Type 0
+AsksBy i base id o w body = MatchOption body (w ≡ Err api_error.BadBody) (λ ms. IsApiRequest i base id ms o w)
 
-by_body : (i : ℕ) (base id : List ℕ) (o : Operation) (w : Result Wish Denial) (body : Option Members)
+by_body : (i : ℕ) (base id : List ℕ) (o : Operation) (w : Result ApiRequest ApiError) (body : Option Members)
     → has_code 400 (refusals o) ≡ true → AsksBy i base id o w body → IsOf o w
-by_body i base id o w None listed h = moved o (Err denial.BadBody) w h listed
+by_body i base id o w None listed h = moved o (Err api_error.BadBody) w h listed
 by_body i base id o w (Some ms) listed h = by_operation i base id ms o w h
 
 -- a GET ignores its body
-by_request : (i : ℕ) (base id bytes : List ℕ) (o : Operation) (w : Result Wish Denial)
+by_request : (i : ℕ) (base id bytes : List ℕ) (o : Operation) (w : Result ApiRequest ApiError)
     → AsksBy i base id o w (body_of o bytes) → IsOf o w
 unfolding body_of
 by_request i base id bytes operation.Status w h = by_operation i base id no_members operation.Status w h
@@ -155,12 +164,12 @@ by_request i base id bytes operation.Renew w h =
 by_request i base id bytes operation.Report w h =
     by_body i base id operation.Report w (body_of operation.Report bytes) refl h
 
-asked : (i : ℕ) (base : List ℕ) (request : Request) (o : Operation) (w : Result Wish Denial)
+asked : (i : ℕ) (base : List ℕ) (request : Request) (o : Operation) (w : Result ApiRequest ApiError)
     → operation_of request.method request.target ≡ Ok o → MayAsk i base request w → IsOf o w
 asked i base request o w e (inl (memory, lacks)) =
-    moved o (Err (denial.Refused refusal.Memory)) w memory (unavailable o)
+    moved o (Err (api_error.Refused refusal.Memory)) w memory (unavailable o)
 asked i base request o w e (inr h) =
-    let P : Result Operation Denial → Type 0 = λ x. MatchResult x
+    let P : Result Operation ApiError → Type 0 = λ x. MatchResult x
     (λ r. AsksBy i base (id_in request.target) r w (body_of r request.body)) (λ d. w ≡ Err d) in
     by_request i base (id_in request.target) request.body o w (subst P e h)
 
@@ -177,60 +186,64 @@ either false = refl
 turned : (s : ActionStatus) → has_code (if is_closing s || is_cancelling s then 202 else 200) (200 ∷ 202 ∷ []) ≡ true
 turned s = either (is_closing s || is_cancelling s)
 
-start_listed : (p : Option ℕ) (l : ℕ) (t : Told) (a : Answer) → TellsOf (wish.Start p l) t a
+start_listed : (p : Option ℕ) (l : ℕ) (t : Told) (a : Answer) → TellsOf (api_request.Start p l) t a
     → is_listed operation.Start a ≡ true
 start_listed p l (told.Action n) a h = listed_as operation.Start a (answer.Started n) h refl
 start_listed p l _ a h = absurd h
 
-join_listed : (b : ℕ) (u : Addresses) (t : Told) (a : Answer) → TellsOf (wish.Join b u) t a
+join_listed : (b : ℕ) (u : Addresses) (t : Told) (a : Answer) → TellsOf (api_request.Join b u) t a
     → is_listed operation.Join a ≡ true
 join_listed b u (told.Member n) a h = listed_as operation.Join a (answer.Joined n) h refl
 join_listed b u (told.AlreadyMember n) a h = listed_as operation.Join a (answer.Joined n) h refl
 join_listed b u _ a h = absurd h
 
-leave_listed : (b p : ℕ) (t : Told) (a : Answer) → TellsOf (wish.Leave b p) t a → is_listed operation.Remove a ≡ true
+leave_listed : (b p : ℕ) (t : Told) (a : Answer) → TellsOf (api_request.Leave b p) t a
+    → is_listed operation.Remove a ≡ true
 leave_listed b p told.Left a h = listed_as operation.Remove a answer.Left h refl
 leave_listed b p _ a h = absurd h
 
-close_listed : (b : ℕ) (t : Told) (a : Answer) → TellsOf (wish.Close b) t a → is_listed operation.Close a ≡ true
+close_listed : (b : ℕ) (t : Told) (a : Answer) → TellsOf (api_request.Close b) t a → is_listed operation.Close a ≡ true
 close_listed b (told.Now s) a h = listed_as operation.Close a (answer.Turned s) h (turned s)
 close_listed b (told.Already s) a h = listed_as operation.Close a (answer.Turned s) h (turned s)
 close_listed b _ a h = absurd h
 
-cancel_listed : (b : ℕ) (t : Told) (a : Answer) → TellsOf (wish.Cancel b) t a → is_listed operation.Cancel a ≡ true
+cancel_listed : (b : ℕ) (t : Told) (a : Answer) → TellsOf (api_request.Cancel b) t a
+    → is_listed operation.Cancel a ≡ true
 cancel_listed b (told.Now s) a h = listed_as operation.Cancel a (answer.Turned s) h (turned s)
 cancel_listed b (told.Already s) a h = listed_as operation.Cancel a (answer.Turned s) h (turned s)
 cancel_listed b _ a h = absurd h
 
-renew_listed : (b l : ℕ) (t : Told) (a : Answer) → TellsOf (wish.Renew b l) t a → is_listed operation.Renew a ≡ true
+renew_listed : (b l : ℕ) (t : Told) (a : Answer) → TellsOf (api_request.Renew b l) t a
+    → is_listed operation.Renew a ≡ true
 renew_listed b l told.Renewed a h = listed_as operation.Renew a answer.Renewed h refl
 renew_listed b l _ a h = absurd h
 
-status_listed : (b : ℕ) (t : Told) (a : Answer) → TellsOf (wish.Status b) t a → is_listed operation.Status a ≡ true
+status_listed : (b : ℕ) (t : Told) (a : Answer) → TellsOf (api_request.Status b) t a
+    → is_listed operation.Status a ≡ true
 status_listed b (told.ActionIs s) a h = listed_as operation.Status a (answer.Found b s) h refl
 status_listed b _ a h = absurd h
 
-report_listed : (p : ℕ) (e : Ending) (t : Told) (a : Answer) → TellsOf (wish.Report p e) t a
+report_listed : (p : ℕ) (e : Ending) (t : Told) (a : Answer) → TellsOf (api_request.Report p e) t a
     → is_listed operation.Report a ≡ true
 report_listed p e (told.MemberNow s) a h = listed_as operation.Report a (answer.Member s) h refl
 report_listed p e (told.MemberAlready s) a h = listed_as operation.Report a (answer.Member s) h refl
 report_listed p e _ a h = absurd h
 
-member_listed : (p : ℕ) (t : Told) (a : Answer) → TellsOf (wish.MemberStatus p) t a
+member_listed : (p : ℕ) (t : Told) (a : Answer) → TellsOf (api_request.MemberStatus p) t a
     → is_listed operation.MemberStatus a ≡ true
 member_listed p (told.MemberIs s) a h = listed_as operation.MemberStatus a (answer.Member s) h refl
 member_listed p _ a h = absurd h
 
-told_listed : (w : Wish) (t : Told) (a : Answer) → TellsOf w t a → is_listed (asked_by w) a ≡ true
-told_listed (wish.Start p l) t a h = start_listed p l t a h
-told_listed (wish.Join b u) t a h = join_listed b u t a h
-told_listed (wish.Leave b p) t a h = leave_listed b p t a h
-told_listed (wish.Close b) t a h = close_listed b t a h
-told_listed (wish.Cancel b) t a h = cancel_listed b t a h
-told_listed (wish.Renew b l) t a h = renew_listed b l t a h
-told_listed (wish.Status b) t a h = status_listed b t a h
-told_listed (wish.Report p e) t a h = report_listed p e t a h
-told_listed (wish.MemberStatus p) t a h = member_listed p t a h
+told_listed : (w : ApiRequest) (t : Told) (a : Answer) → TellsOf w t a → is_listed (asked_by w) a ≡ true
+told_listed (api_request.Start p l) t a h = start_listed p l t a h
+told_listed (api_request.Join b u) t a h = join_listed b u t a h
+told_listed (api_request.Leave b p) t a h = leave_listed b p t a h
+told_listed (api_request.Close b) t a h = close_listed b t a h
+told_listed (api_request.Cancel b) t a h = cancel_listed b t a h
+told_listed (api_request.Renew b l) t a h = renew_listed b l t a h
+told_listed (api_request.Status b) t a h = status_listed b t a h
+told_listed (api_request.Report p e) t a h = report_listed p e t a h
+told_listed (api_request.MemberStatus p) t a h = member_listed p t a h
 
 -- ---- what is refused
 
@@ -239,25 +252,25 @@ abbrev is_missing : Operation → Refusal → Bool
 is_missing o r = not (has_code (refusal_code r) (refusals o))
 
 -- none of the grounds on which an order may be refused is missing
-none_missing : (s : Terms) (J : History) (by m : ℕ) (w : Wish) (o : Order) → IsOrder w o
+none_missing : (s : Terms) (J : History) (by m : ℕ) (w : ApiRequest) (o : Order) → IsOrder w o
     → names (is_missing (asked_by w)) (grounds s J (call_of by m o)) ≡ false
-none_missing s J by m (wish.Start p l) o e = subst
+none_missing s J by m (api_request.Start p l) o e = subst
     (λ (x : Order). names (is_missing operation.Start) (grounds s J (call_of by m x)) ≡ false) (sym e) refl
-none_missing s J by m (wish.Join b u) (order.Join c given) e = refl
-none_missing s J by m (wish.Join b u) _ e = absurd e
-none_missing s J by m (wish.Leave b p) o e = subst
+none_missing s J by m (api_request.Join b u) (order.Join c given) e = refl
+none_missing s J by m (api_request.Join b u) _ e = absurd e
+none_missing s J by m (api_request.Leave b p) o e = subst
     (λ (x : Order). names (is_missing operation.Remove) (grounds s J (call_of by m x)) ≡ false) (sym e) refl
-none_missing s J by m (wish.Close b) o e =
+none_missing s J by m (api_request.Close b) o e =
     subst (λ (x : Order). names (is_missing operation.Close) (grounds s J (call_of by m x)) ≡ false) (sym e) refl
-none_missing s J by m (wish.Cancel b) o e =
+none_missing s J by m (api_request.Cancel b) o e =
     subst (λ (x : Order). names (is_missing operation.Cancel) (grounds s J (call_of by m x)) ≡ false) (sym e) refl
-none_missing s J by m (wish.Renew b l) o e = subst
+none_missing s J by m (api_request.Renew b l) o e = subst
     (λ (x : Order). names (is_missing operation.Renew) (grounds s J (call_of by m x)) ≡ false) (sym e) refl
-none_missing s J by m (wish.Status b) o e =
+none_missing s J by m (api_request.Status b) o e =
     subst (λ (x : Order). names (is_missing operation.Status) (grounds s J (call_of by m x)) ≡ false) (sym e) refl
-none_missing s J by m (wish.Report p f) o e = subst
+none_missing s J by m (api_request.Report p f) o e = subst
     (λ (x : Order). names (is_missing operation.Report) (grounds s J (call_of by m x)) ≡ false) (sym e) refl
-none_missing s J by m (wish.MemberStatus p) o e = subst
+none_missing s J by m (api_request.MemberStatus p) o e = subst
     (λ (x : Order). names (is_missing operation.MemberStatus) (grounds s J (call_of by m x)) ≡ false) (sym e) refl
 
 -- an answer that is a refusal has the first ground that holds
@@ -270,7 +283,7 @@ first_of s J c r h = some (first_ground (grounds s J c)) h
     some None e = absurd cc
     some (Some q) e = let same : q ≡ r = cc in ap Some same
 
-ground_listed : (s : Terms) (J : History) (by m : ℕ) (w : Wish) (o : Order) (r : Refusal) → IsOrder w o
+ground_listed : (s : Terms) (J : History) (by m : ℕ) (w : ApiRequest) (o : Order) (r : Refusal) → IsOrder w o
     → call_answer s J (call_of by m o) ≡ Err r
     → has_code (refusal_code r) (refusals (asked_by w)) ≡ true
 ground_listed s J by m w o r e h =
@@ -278,7 +291,7 @@ ground_listed s J by m w o r e h =
     (other_first (is_missing (asked_by w)) (grounds s J (call_of by m o)) (none_missing s J by m w o e) r
     (first_of s J (call_of by m o) r h))
 
-refused_listed : (s : Terms) (J : History) (by m : ℕ) (w : Wish) (o : Order) (r : Refusal) → IsOrder w o
+refused_listed : (s : Terms) (J : History) (by m : ℕ) (w : ApiRequest) (o : Order) (r : Refusal) → IsOrder w o
     → IsRefusedAt s J (call_of by m o) r
     → has_code (refusal_code r) (refusals (asked_by w)) ≡ true
 refused_listed s J by m w o refusal.Stopped e h = unavailable (asked_by w)
@@ -290,16 +303,17 @@ refused_listed s J by m w o r e h = ground_listed s J by m w o r e h
 module _ (gives : Sight → ℕ → Order → Result Told CounterFault → Sight → Type 0)
     (keeps : (before after : Sight) (moment : ℕ) (o : Order) (reply : Result Told CounterFault)
     → gives before moment o reply after → KeepsHistory before moment o reply after) where
-  answered : (before after : Sight) (moment : ℕ) (w : Wish) (o : Order) (reply : Result Told CounterFault) (a : Answer)
+  answered : (before after : Sight) (moment : ℕ) (w : ApiRequest) (o : Order) (reply : Result Told CounterFault)
+      (a : Answer)
       → IsOrder w o → gives before moment o reply after → Answers w reply a → is_listed (asked_by w) a ≡ true
   answered before after moment w o (Ok t) a e given h = told_listed w t a h
   answered before after moment w o (Err (CounterRefused r)) a e given h =
       let kept = keeps before after moment o (Err (CounterRefused r)) given in
       let at = kept.seen in
-      listed_as (asked_by w) a (answer.Denied (denial.Refused r)) h
+      listed_as (asked_by w) a (answer.Denied (api_error.Refused r)) h
       (refused_listed (terms_of before.setting) _ before.number moment w o r e at.2.told.0)
   answered before after moment w o (Err CounterWorn) a e given h =
-      listed_as (asked_by w) a (answer.Denied denial.Worn) h (unavailable (asked_by w))
+      listed_as (asked_by w) a (answer.Denied api_error.Worn) h (unavailable (asked_by w))
 
   responds : (before after : Sight) (moment : ℕ) (request : Request) (o : Operation) (a : Answer)
       → operation_of request.method request.target ≡ Ok o → Responds gives before moment request after a

@@ -15,14 +15,14 @@ use Rattle.lra_commands.specs.Calls.{Call}
 use Rattle.lra_commands.specs.Refusals.{Ground, grounds}
 use Rattle.lra_commands.specs.Counters.{call_of}
 use Rattle.lra_front.specs.declared.operation.Operation.TheVariants as operation
-use Rattle.lra_front.specs.declared.operation.Place.TheVariants as place
-use Rattle.lra_front.specs.declared.denial.Denial.TheVariants as denial
+use Rattle.lra_front.specs.declared.operation.Resource.TheVariants as resource
+use Rattle.lra_front.specs.declared.api_error.ApiError.TheVariants as api_error
 use Rattle.lra_front.specs.declared.answer.Answer.TheVariants as answer
 use Rattle.std.specs.List.{list_any}
-use Rattle.lra_front.specs.Operations.{operations, places, named_place, method, is_at, operation_at, allowed}
+use Rattle.lra_front.specs.Operations.{operations, resources, named_resource, method, is_at, operation_at, allowed}
 use Rattle.lra_front.specs.Operations.{success, refusals}
 use Rattle.lra_front.specs.Routes.{place_of, id_in}
-use Rattle.lra_front.specs.Replies.{refusal_code, denial_code, turned_code, reply_bytes, line_end}
+use Rattle.lra_front.specs.Replies.{refusal_code, api_error_code, turned_code, reply_bytes, line_end}
 use Rattle.lra_front.specs.Listed.{has_code}
 
 -- ---- paths
@@ -36,7 +36,8 @@ targets =
 
 -- no ID, and a query at the end, after the ID, and amid the path
 named : map place_of targets
-    ≡ Some place.Actions ∷ Some place.Action ∷ Some place.Close ∷ Some place.Member ∷ None ∷ None ∷ None ∷ None ∷ []
+    ≡ Some resource.Actions ∷ Some resource.Action ∷ Some resource.Close ∷ Some resource.Member ∷ None ∷ None ∷ None ∷
+    None ∷ []
 unfolding targets place_of matchit_on_literals
 named = refl
 
@@ -47,13 +48,13 @@ id_of_close = refl
 -- ---- operations
 
 -- each operation is the one that its method asks for at its resource, and each resource has an operation
-own : map (λ o. operation_at (method o) (named_place o)) operations ≡ map Some operations
+own : map (λ o. operation_at (method o) (named_resource o)) operations ≡ map Some operations
 own = refl
 
-firsts : map (λ p. list_any (is_at p) operations) places ≡ true ∷ true ∷ true ∷ true ∷ true ∷ true ∷ true ∷ []
+firsts : map (λ p. list_any (is_at p) operations) resources ≡ true ∷ true ∷ true ∷ true ∷ true ∷ true ∷ true ∷ []
 firsts = refl
 
-allows : map allowed places
+allows : map allowed resources
     ≡ codes "POST" ∷ codes "GET, PUT" ∷ codes "PUT" ∷ codes "PUT" ∷ codes "PUT" ∷ codes "PUT" ∷ codes "GET, PUT" ∷ []
 allows = refl
 
@@ -79,7 +80,7 @@ abbrev codes_had : List ℕ → Terms → History → Call → List ℕ
 codes_had more s J c = filter (λ code. has_code code (more ++ ground_codes s J c)) all_codes
 
 abbrev bad_body : List ℕ
-bad_body = denial_code denial.BadBody ∷ []
+bad_body = api_error_code api_error.BadBody ∷ []
 
 start_codes : (s : Terms) (J : History) (by m l : ℕ) (p : Option ℕ)
     → codes_had bad_body s J (call_of by m (order.Start p l)) ≡ refusals operation.Start
@@ -119,7 +120,7 @@ report_codes s J by m p e = refl
 
 -- ---- replies
 
-not_found : reply_bytes 7 (codes "http://h/") (answer.Denied denial.NoSuchPath) false false
+not_found : reply_bytes 7 (codes "http://h/") (answer.Denied api_error.NoSuchPath) false false
     ≡ codes "HTTP/1.1 404 Not Found" ++ line_end ++ codes "Content-Type: application/json" ++ line_end
     ++ codes "Content-Length: 22" ++ line_end
     ++ line_end ++ codes "{\"error\":\"NoSuchPath\"}"

@@ -2,7 +2,7 @@ pub mod Operations
 pub mod Paths
 pub mod Routes
 pub mod Bodies
-pub mod Wishes
+pub mod ApiRequests
 pub mod Replies
 pub mod Serving
 pub mod Listed

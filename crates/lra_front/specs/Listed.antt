@@ -11,7 +11,7 @@ use Rattle.lra_front.specs.declared.answer.Answer.{Answer}
 use Rattle.lra_front.specs.declared.answer.Answer.TheVariants as answer
 use Rattle.lra_front.specs.Operations.{success, refusals}
 use Rattle.lra_front.specs.Routes.{operation_of}
-use Rattle.lra_front.specs.Replies.{denial_code, code_of}
+use Rattle.lra_front.specs.Replies.{api_error_code, code_of}
 use Rattle.lra_front.specs.Serving.{Responds}
 
 -- a code is among codes
@@ -21,7 +21,7 @@ has_code code codes = list_any (λ x. x == code) codes
 -- the table has an answer's code: among an operation's refusals where it isn't done, and else among the codes of its
 -- success
 abbrev pub is_listed : Operation → Answer → Bool
-is_listed o (answer.Denied d) = has_code (denial_code d) (refusals o)
+is_listed o (answer.Denied d) = has_code (api_error_code d) (refusals o)
 is_listed o a = has_code (code_of a) (success o)
 
 module _ (gives : Sight → ℕ → Order → Result Told CounterFault → Sight → Type 0) where

@@ -1,8 +1,8 @@
 -- The operations: what a request may ask for, in one table (this project's own).
 use Rattle.std.specs.Prelude.{ℕ, List, [], ◌∷◌, ◌&&◌, Bool, codes, bytes_eq, Option, map}
 use Rattle.std.specs.List.{find, filter, join_by}
-use Rattle.lra_front.specs.declared.operation.Place.{Place}
-use Rattle.lra_front.specs.declared.operation.Place.TheVariants as place
+use Rattle.lra_front.specs.declared.operation.Resource.{Resource}
+use Rattle.lra_front.specs.declared.operation.Resource.TheVariants as resource
 use Rattle.lra_front.specs.declared.operation.Operation.{Operation}
 use Rattle.lra_front.specs.declared.operation.Operation.TheVariants as operation
 
@@ -14,16 +14,16 @@ operations =
     ∷ operation.MemberStatus ∷ operation.Report ∷ []
 
 -- the resource that an operation's path names
-abbrev pub named_place : Operation → Place
-named_place operation.Start = place.Actions
-named_place operation.Status = place.Action
-named_place operation.Join = place.Action
-named_place operation.Close = place.Close
-named_place operation.Cancel = place.Cancel
-named_place operation.Remove = place.Remove
-named_place operation.Renew = place.Renew
-named_place operation.MemberStatus = place.Member
-named_place operation.Report = place.Member
+abbrev pub named_resource : Operation → Resource
+named_resource operation.Start = resource.Actions
+named_resource operation.Status = resource.Action
+named_resource operation.Join = resource.Action
+named_resource operation.Close = resource.Close
+named_resource operation.Cancel = resource.Cancel
+named_resource operation.Remove = resource.Remove
+named_resource operation.Renew = resource.Renew
+named_resource operation.MemberStatus = resource.Member
+named_resource operation.Report = resource.Member
 
 -- an operation's method
 abbrev pub method : Operation → List ℕ
@@ -88,35 +88,36 @@ refusals operation.Report = 400 ∷ 404 ∷ 410 ∷ 412 ∷ 500 ∷ 503 ∷ []
 -- ---- resources
 
 -- the resources, in the order of their first operations
-abbrev pub places : List Place
-places = place.Actions ∷ place.Action ∷ place.Close ∷ place.Cancel ∷ place.Remove ∷ place.Renew ∷ place.Member ∷ []
+abbrev pub resources : List Resource
+resources = resource.Actions ∷ resource.Action ∷ resource.Close ∷ resource.Cancel ∷ resource.Remove ∷ resource.Renew ∷
+    resource.Member ∷ []
 
 -- a resource's path; `{id}` is a piece between slashes that isn't empty
-abbrev pub path_of : Place → List ℕ
-path_of place.Actions = codes "/lra-coordinator"
-path_of place.Action = codes "/lra-coordinator/{id}"
-path_of place.Close = codes "/lra-coordinator/{id}/close"
-path_of place.Cancel = codes "/lra-coordinator/{id}/cancel"
-path_of place.Remove = codes "/lra-coordinator/{id}/remove"
-path_of place.Renew = codes "/lra-coordinator/{id}/renew"
-path_of place.Member = codes "/lra-recovery/{id}"
+abbrev pub path_of : Resource → List ℕ
+path_of resource.Actions = codes "/lra-coordinator"
+path_of resource.Action = codes "/lra-coordinator/{id}"
+path_of resource.Close = codes "/lra-coordinator/{id}/close"
+path_of resource.Cancel = codes "/lra-coordinator/{id}/cancel"
+path_of resource.Remove = codes "/lra-coordinator/{id}/remove"
+path_of resource.Renew = codes "/lra-coordinator/{id}/renew"
+path_of resource.Member = codes "/lra-recovery/{id}"
 
 -- an operation's path
 abbrev pub path : Operation → List ℕ
-path o = path_of (named_place o)
+path o = path_of (named_resource o)
 
 -- an operation has the path of a resource
-abbrev pub is_at : Place → Operation → Bool
+abbrev pub is_at : Resource → Operation → Bool
 is_at p o = bytes_eq (path o) (path_of p)
 
 -- a method asks for an operation at a resource; methods are case-sensitive (RFC 9110, section 9.1)
-abbrev pub is_asked : List ℕ → Place → Operation → Bool
+abbrev pub is_asked : List ℕ → Resource → Operation → Bool
 is_asked m p o = is_at p o && bytes_eq m (method o)
 
 -- the operation that a method asks for at a resource, if there is one
-abbrev pub operation_at : List ℕ → Place → Option Operation
+abbrev pub operation_at : List ℕ → Resource → Option Operation
 operation_at m p = find (is_asked m p) operations
 
 -- the value of `Allow` at a resource: the methods of its operations (RFC 9110, section 10.2.1)
-abbrev pub allowed : Place → List ℕ
+abbrev pub allowed : Resource → List ℕ
 allowed p = join_by (λ m. m) (codes ", ") (map method (filter (is_at p) operations))

@@ -12,8 +12,8 @@ use Rattle.lra_ids.specs.Identifiers.{action_uri, recovery_uri}
 use Rattle.lra_commands.specs.declared.refusal.Refusal.{Refusal}
 use Rattle.lra_commands.specs.declared.refusal.Refusal.TheVariants as refusal
 use Rattle.lra_commands.specs.Names.{refusal_name, resource_name}
-use Rattle.lra_front.specs.declared.denial.Denial.{Denial}
-use Rattle.lra_front.specs.declared.denial.Denial.TheVariants as denial
+use Rattle.lra_front.specs.declared.api_error.ApiError.{ApiError}
+use Rattle.lra_front.specs.declared.api_error.ApiError.TheVariants as api_error
 use Rattle.lra_front.specs.declared.answer.Answer.{Answer}
 use Rattle.lra_front.specs.declared.answer.Answer.TheVariants as answer
 use Rattle.lra_front.specs.Operations.{allowed}
@@ -32,25 +32,25 @@ refusal_code (refusal.NotActive status) = 412
 refusal_code refusal.BadAddresses = 400
 refusal_code refusal.LimitTooFar = 400
 refusal_code refusal.TooDeep = 409
-refusal_code (refusal.Full resource) = 503
+refusal_code (refusal.Full exhausted) = 503
 refusal_code refusal.NotAsked = 412
 refusal_code refusal.Stopped = 503
 refusal_code refusal.Memory = 503
 
 -- the code of an API error (this project's choice)
-abbrev pub denial_code : Denial → ℕ
-denial_code denial.WrongKey = 401
-denial_code denial.WrongHost = 403
-denial_code denial.WrongOrigin = 403
-denial_code denial.BadHead = 400
-denial_code denial.Chunked = 501
-denial_code denial.BadLength = 400
-denial_code denial.TooLarge = 413
-denial_code denial.NoSuchPath = 404
-denial_code (denial.BadMethod place) = 405
-denial_code denial.BadBody = 400
-denial_code (denial.Refused r) = refusal_code r
-denial_code denial.Worn = 503
+abbrev pub api_error_code : ApiError → ℕ
+api_error_code api_error.WrongKey = 401
+api_error_code api_error.WrongHost = 403
+api_error_code api_error.WrongOrigin = 403
+api_error_code api_error.BadHead = 400
+api_error_code api_error.Chunked = 501
+api_error_code api_error.BadLength = 400
+api_error_code api_error.TooLarge = 413
+api_error_code api_error.NoSuchPath = 404
+api_error_code (api_error.BadMethod resource) = 405
+api_error_code api_error.BadBody = 400
+api_error_code (api_error.Refused r) = refusal_code r
+api_error_code api_error.Worn = 503
 
 -- the code of an action's end that was asked for: 202 while the action hasn't reached it (MicroProfile LRA 2.0, close
 -- and cancel)
@@ -66,7 +66,7 @@ code_of (answer.Turned status) = turned_code status
 code_of answer.Left = 200
 code_of answer.Renewed = 200
 code_of (answer.Member status) = 200
-code_of (answer.Denied d) = denial_code d
+code_of (answer.Denied d) = api_error_code d
 
 -- the phrase of a code (RFC 9110, section 15, as `http` has it)
 abbrev pub phrase_of : ℕ → List ℕ
@@ -75,19 +75,19 @@ phrase_of code = unwrap_or (reason_phrase code) []
 -- ---- bodies (this project's own): objects, their keys in the order of their bytes
 
 -- the name of an API error
-abbrev pub denial_name : Denial → List ℕ
-denial_name denial.WrongKey = codes "WrongKey"
-denial_name denial.WrongHost = codes "WrongHost"
-denial_name denial.WrongOrigin = codes "WrongOrigin"
-denial_name denial.BadHead = codes "BadHead"
-denial_name denial.Chunked = codes "Chunked"
-denial_name denial.BadLength = codes "BadLength"
-denial_name denial.TooLarge = codes "TooLarge"
-denial_name denial.NoSuchPath = codes "NoSuchPath"
-denial_name (denial.BadMethod place) = codes "BadMethod"
-denial_name denial.BadBody = codes "BadBody"
-denial_name (denial.Refused r) = refusal_name r
-denial_name denial.Worn = codes "Worn"
+abbrev pub api_error_name : ApiError → List ℕ
+api_error_name api_error.WrongKey = codes "WrongKey"
+api_error_name api_error.WrongHost = codes "WrongHost"
+api_error_name api_error.WrongOrigin = codes "WrongOrigin"
+api_error_name api_error.BadHead = codes "BadHead"
+api_error_name api_error.Chunked = codes "Chunked"
+api_error_name api_error.BadLength = codes "BadLength"
+api_error_name api_error.TooLarge = codes "TooLarge"
+api_error_name api_error.NoSuchPath = codes "NoSuchPath"
+api_error_name (api_error.BadMethod resource) = codes "BadMethod"
+api_error_name api_error.BadBody = codes "BadBody"
+api_error_name (api_error.Refused r) = refusal_name r
+api_error_name api_error.Worn = codes "Worn"
 
 -- an object of one text, under its key
 abbrev pub one_text : List ℕ → List ℕ → Data
@@ -101,13 +101,14 @@ two_texts key text other more = object (member key (string text) (member other (
 abbrev pub refusal_body : Refusal → Data
 refusal_body (refusal.NotActive status) = two_texts (codes "error") (codes "NotActive") (codes "status")
     (action_status_name status)
-refusal_body (refusal.Full resource) = two_texts (codes "error") (codes "Full") (codes "which") (resource_name resource)
+refusal_body (refusal.Full exhausted) = two_texts (codes "error") (codes "Full") (codes "which")
+    (resource_name exhausted)
 refusal_body r = one_text (codes "error") (refusal_name r)
 
 -- the body of an API error
-abbrev pub denial_body : Denial → Data
-denial_body (denial.Refused r) = refusal_body r
-denial_body d = one_text (codes "error") (denial_name d)
+abbrev pub api_error_body : ApiError → Data
+api_error_body (api_error.Refused r) = refusal_body r
+api_error_body d = one_text (codes "error") (api_error_name d)
 
 -- the URI that an answer of a coordinator with that instance and base names, or nothing
 abbrev pub uri_of : ℕ → List ℕ → Answer → List ℕ
@@ -125,7 +126,7 @@ body_of uri (answer.Turned status) = one_text (codes "status") (action_status_na
 body_of uri answer.Left = one_text (codes "status") (codes "Left")
 body_of uri answer.Renewed = one_text (codes "status") (codes "Active")
 body_of uri (answer.Member status) = one_text (codes "status") (member_status_name status)
-body_of uri (answer.Denied d) = denial_body d
+body_of uri (answer.Denied d) = api_error_body d
 
 -- ---- fields
 
@@ -135,16 +136,16 @@ Field = List ℕ × List ℕ
 
 -- the fields of an API error: how a key is given, where it was missing or wrong (RFC 6750, section 3), and the methods
 -- that a resource accepts, where another came (RFC 9110, section 15.5.6)
-abbrev pub denial_fields : Denial → List Field
-denial_fields denial.WrongKey = (codes "WWW-Authenticate", codes "Bearer realm=\"lra\"") ∷ []
-denial_fields (denial.BadMethod place) = (codes "Allow", allowed place) ∷ []
-denial_fields _ = []
+abbrev pub api_error_fields : ApiError → List Field
+api_error_fields api_error.WrongKey = (codes "WWW-Authenticate", codes "Bearer realm=\"lra\"") ∷ []
+api_error_fields (api_error.BadMethod resource) = (codes "Allow", allowed resource) ∷ []
+api_error_fields _ = []
 
 -- the fields of one answer alone (MicroProfile LRA 2.0, the headers of an LRA; RFC 9110, section 10.2.2)
 abbrev pub own_fields : List ℕ → Answer → List Field
 own_fields uri (answer.Started action) = (codes "Location", uri) ∷ (codes "Long-Running-Action", uri) ∷ []
 own_fields uri (answer.Joined m) = (codes "Long-Running-Action-Recovery", uri) ∷ []
-own_fields uri (answer.Denied d) = denial_fields d
+own_fields uri (answer.Denied d) = api_error_fields d
 own_fields uri _ = []
 
 -- the field that says that the stream is closed after the reply (RFC 9112, section 9.6)

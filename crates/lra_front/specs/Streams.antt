@@ -13,7 +13,7 @@ use Rattle.lra_commands.specs.declared.counter.Order.{Order}
 use Rattle.lra_commands.specs.declared.counter.CounterFault.{CounterFault}
 use Rattle.lra_commands.specs.declared.refusal.Refusal.TheVariants as refusal
 use Rattle.lra_commands.specs.Counters.{Sight}
-use Rattle.lra_front.specs.declared.denial.Denial.TheVariants as denial
+use Rattle.lra_front.specs.declared.api_error.ApiError.TheVariants as api_error
 use Rattle.lra_front.specs.declared.answer.Answer.{Answer}
 use Rattle.lra_front.specs.declared.answer.Answer.TheVariants.{Denied}
 use Rattle.lra_front.specs.declared.stream.StreamEnd.{StreamEnd}
@@ -37,13 +37,13 @@ standing bytes sight clock out = record { bytes = bytes; sight = sight; clock = 
 
 -- the answer to a fault of reading: none where the stream was cut or failed
 abbrev pub fault_answer : WireFault → Option Answer
-fault_answer wire.BadHead = Some (Denied denial.BadHead)
-fault_answer wire.Chunked = Some (Denied denial.Chunked)
-fault_answer wire.BadLength = Some (Denied denial.BadLength)
-fault_answer wire.TooLarge = Some (Denied denial.TooLarge)
+fault_answer wire.BadHead = Some (Denied api_error.BadHead)
+fault_answer wire.Chunked = Some (Denied api_error.Chunked)
+fault_answer wire.BadLength = Some (Denied api_error.BadLength)
+fault_answer wire.TooLarge = Some (Denied api_error.TooLarge)
 fault_answer wire.Cut = None
 fault_answer wire.Io = None
-fault_answer wire.Memory = Some (Denied (denial.Refused refusal.Memory))
+fault_answer wire.Memory = Some (Denied (api_error.Refused refusal.Memory))
 
 -- the reply to a fault of reading, which closes the stream, or nothing where there is none
 abbrev pub fault_text : Sight → WireFault → List ℕ

@@ -12,8 +12,8 @@ use Rattle.lra_commands.specs.declared.counter.Order.{Order}
 use Rattle.lra_commands.specs.declared.counter.CounterFault.{CounterFault}
 use Rattle.lra_commands.specs.Counters.{Setting, Sight, terms_of, call_of, entries_under, added_by}
 use Rattle.lra_front.specs.declared.answer.Answer.{Answer}
-use Rattle.lra_front.specs.declared.denial.Denial.{Denial}
-use Rattle.lra_front.specs.declared.wish.Wish.{Wish}
+use Rattle.lra_front.specs.declared.api_error.ApiError.{ApiError}
+use Rattle.lra_front.specs.declared.api_request.ApiRequest.{ApiRequest}
 use Rattle.lra_front.specs.declared.stream.StreamEnd.{StreamEnd}
 use Rattle.lra_front.specs.declared.stream.StreamEnd.TheVariants.{Done, Refused, WriteFault}
 use Rattle.lra_front.specs.Replies.{reply_bytes}
@@ -109,11 +109,11 @@ module _ {K : Type 0} (gives : Sight → ℕ → Order → Result Told CounterFa
 
   -- what a request adds to the entries under its clerk's number: what its one order adds, at a history that begins with
   -- all that was seen; nothing where it is an API error
-  abbrev pub IsAdded : (v : Sight) (moment : ℕ) (w : Result Wish Denial) (u : Sight) (a : Answer)
+  abbrev pub IsAdded : (v : Sight) (moment : ℕ) (w : Result ApiRequest ApiError) (u : Sight) (a : Answer)
       → Does gives v moment w u a → History → Type 0
-  IsAdded v moment (Ok wish) u a given added = (met : History) × IsPrefix v.seen met
+  IsAdded v moment (Ok api_request) u a given added = (met : History) × IsPrefix v.seen met
       × (added ≡ added_by (terms_of v.setting) met (call_of v.number moment given.order) given.reply)
-  IsAdded v moment (Err denial) u a given added = added ≡ []
+  IsAdded v moment (Err api_error) u a given added = added ≡ []
 
   -- what turns add to those entries, one after another
   abbrev pub AreAdded : (v : Sight) (k : K) (turns : List Turn) (w : Sight) (l : K) → Chain v k turns w l → History

@@ -29,7 +29,7 @@ ghost use Rattle.lra_wire.specs.Writing.{Sends};
 ghost use Rattle.lra_front.specs.Replies as spec;
 ghost use Rattle.lra_front.specs.inner.Seen.{seen, IsPartsOf};
 
-use crate::denial::Denial;
+use crate::api_error::ApiError;
 use http::StatusCode;
 use lra_commands::Refusal;
 use lra_ids::{Base, Instance};
@@ -60,7 +60,7 @@ pub enum Answer {
     /// Member's status.
     Member(MemberStatus),
     /// The request was refused, for the reason that the API error gives.
-    Denied(Denial),
+    Denied(ApiError),
 }
 
 /// Parts that a reply is written from: the URI that its answer names, its body, and the body's length in digits.
@@ -109,54 +109,54 @@ fn refusal_body(alloc: Global, refusal: Refusal) -> Result<Value, Memory>
         Refusal::NotActive(status) => {
             two_texts(alloc, "error", "NotActive", "status", status.name())
         }
-        Refusal::Full(resource) => two_texts(alloc, "error", "Full", "which", resource.name()),
+        Refusal::Full(exhausted) => two_texts(alloc, "error", "Full", "which", exhausted.name()),
         _ => one_text(alloc, "error", refusal.name()),
     }
 }
 
-impl Denial {
+impl ApiError {
     /// Returns the error's name, as it stands in a body.
     pub fn name(self) -> &'static str
-        ensures { result.now ≡ spec.denial_name self }
+        ensures { result.now ≡ spec.api_error_name self }
     {
         match self {
-            Denial::WrongKey => "WrongKey",
-            Denial::WrongHost => "WrongHost",
-            Denial::WrongOrigin => "WrongOrigin",
-            Denial::BadHead => "BadHead",
-            Denial::Chunked => "Chunked",
-            Denial::BadLength => "BadLength",
-            Denial::TooLarge => "TooLarge",
-            Denial::NoSuchPath => "NoSuchPath",
-            Denial::BadMethod(_) => "BadMethod",
-            Denial::BadBody => "BadBody",
-            Denial::Refused(refusal) => refusal.name(),
-            Denial::Worn => "Worn",
+            ApiError::WrongKey => "WrongKey",
+            ApiError::WrongHost => "WrongHost",
+            ApiError::WrongOrigin => "WrongOrigin",
+            ApiError::BadHead => "BadHead",
+            ApiError::Chunked => "Chunked",
+            ApiError::BadLength => "BadLength",
+            ApiError::TooLarge => "TooLarge",
+            ApiError::NoSuchPath => "NoSuchPath",
+            ApiError::BadMethod(_) => "BadMethod",
+            ApiError::BadBody => "BadBody",
+            ApiError::Refused(refusal) => refusal.name(),
+            ApiError::Worn => "Worn",
         }
     }
 
     /// Returns the status code of its reply.
     pub fn status(self) -> StatusCode
-        ensures { result ≡ spec.denial_code self }
+        ensures { result ≡ spec.api_error_code self }
     {
         match self {
-            Denial::WrongKey => StatusCode::UNAUTHORIZED,
-            Denial::WrongHost | Denial::WrongOrigin => StatusCode::FORBIDDEN,
-            Denial::BadHead | Denial::BadLength | Denial::BadBody => StatusCode::BAD_REQUEST,
-            Denial::Chunked => StatusCode::NOT_IMPLEMENTED,
-            Denial::TooLarge => StatusCode::PAYLOAD_TOO_LARGE,
-            Denial::NoSuchPath => StatusCode::NOT_FOUND,
-            Denial::BadMethod(_) => StatusCode::METHOD_NOT_ALLOWED,
-            Denial::Refused(refusal) => refusal_status(refusal),
-            Denial::Worn => StatusCode::SERVICE_UNAVAILABLE,
+            ApiError::WrongKey => StatusCode::UNAUTHORIZED,
+            ApiError::WrongHost | ApiError::WrongOrigin => StatusCode::FORBIDDEN,
+            ApiError::BadHead | ApiError::BadLength | ApiError::BadBody => StatusCode::BAD_REQUEST,
+            ApiError::Chunked => StatusCode::NOT_IMPLEMENTED,
+            ApiError::TooLarge => StatusCode::PAYLOAD_TOO_LARGE,
+            ApiError::NoSuchPath => StatusCode::NOT_FOUND,
+            ApiError::BadMethod(_) => StatusCode::METHOD_NOT_ALLOWED,
+            ApiError::Refused(refusal) => refusal_status(refusal),
+            ApiError::Worn => StatusCode::SERVICE_UNAVAILABLE,
         }
     }
 
     fn body(self, alloc: Global) -> Result<Value, Memory>
-        ensures { IfOk result (λ body. view body ≡ spec.denial_body self) }
+        ensures { IfOk result (λ body. view body ≡ spec.api_error_body self) }
     {
         match self {
-            Denial::Refused(refusal) => refusal_body(alloc, refusal),
+            ApiError::Refused(refusal) => refusal_body(alloc, refusal),
             _ => one_text(alloc, "error", self.name()),
         }
     }
@@ -172,7 +172,7 @@ impl Answer {
             Answer::Turned(ActionStatus::Closing | ActionStatus::Cancelling) => {
                 StatusCode::ACCEPTED
             }
-            Answer::Denied(denial) => denial.status(),
+            Answer::Denied(api_error) => api_error.status(),
             _ => StatusCode::OK,
         }
     }
@@ -204,7 +204,7 @@ impl Answer {
             Answer::Left => one_text(alloc, "status", "Left"),
             Answer::Renewed => one_text(alloc, "status", "Active"),
             Answer::Member(status) => one_text(alloc, "status", status.name()),
-            Answer::Denied(denial) => denial.body(alloc),
+            Answer::Denied(api_error) => api_error.body(alloc),
         }
     }
 
@@ -228,10 +228,10 @@ impl Answer {
                 fields.push_reserved(("Long-Running-Action", uri));
             }
             Answer::Joined(_) => fields.push_reserved(("Long-Running-Action-Recovery", uri)),
-            Answer::Denied(Denial::BadMethod(place)) => {
-                fields.push_reserved(("Allow", place.allowed()));
+            Answer::Denied(ApiError::BadMethod(resource)) => {
+                fields.push_reserved(("Allow", resource.allowed()));
             }
-            Answer::Denied(Denial::WrongKey) => {
+            Answer::Denied(ApiError::WrongKey) => {
                 fields.push_reserved(("WWW-Authenticate", "Bearer realm=\"lra\""));
             }
             _ => {}

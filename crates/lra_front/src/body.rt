@@ -7,7 +7,7 @@ ghost use Rattle.serde_json.specs.View.{view, members_view};
 ghost use Rattle.lra_front.specs.Bodies as spec;
 ghost use Rattle.lra_front.specs.inner.Reads.{ReadsObject, ReadsBody};
 
-use crate::denial::Denial;
+use crate::api_error::ApiError;
 use crate::operation::Operation;
 use lra_commands::Refusal;
 use lra_model::Ending;
@@ -142,7 +142,7 @@ fn empty_object(alloc: Global) -> Value
 }
 
 /// Reads the object that a body is. An empty body is an object without members.
-fn object_in(alloc: Global, body: &[u8]) -> Result<Value, Denial>
+fn object_in(alloc: Global, body: &[u8]) -> Result<Value, ApiError>
     ensures { ReadsObject body.now result }
 {
     if body.is_empty() {
@@ -150,16 +150,16 @@ fn object_in(alloc: Global, body: &[u8]) -> Result<Value, Denial>
     }
     match Value::from_slice(alloc, body) {
         Ok(value) if value.is_object() => Ok(value),
-        Ok(_) => Err(Denial::BadBody),
-        Err(error) if error.is_memory() => Err(Denial::Refused(Refusal::Memory)),
-        Err(_) => Err(Denial::BadBody),
+        Ok(_) => Err(ApiError::BadBody),
+        Err(error) if error.is_memory() => Err(ApiError::Refused(Refusal::Memory)),
+        Err(_) => Err(ApiError::BadBody),
     }
 }
 
 impl Operation {
     /// Reads the object that a body is. It is empty where the operation reads no body. Returns `BadBody` where the body
     /// doesn't fit the operation.
-    pub(crate) fn read_body(self, alloc: Global, body: &[u8]) -> Result<Value, Denial>
+    pub(crate) fn read_body(self, alloc: Global, body: &[u8]) -> Result<Value, ApiError>
         ensures { ReadsBody self body.now result }
     {
         if !self.reads_body() {
@@ -167,8 +167,8 @@ impl Operation {
         }
         match object_in(alloc, body) {
             Ok(value) if self.fits(&value) => Ok(value),
-            Ok(_) => Err(Denial::BadBody),
-            Err(denial) => Err(denial),
+            Ok(_) => Err(ApiError::BadBody),
+            Err(api_error) => Err(api_error),
         }
     }
 

@@ -2,22 +2,22 @@
 #![tactic(auto)]
 
 mod answer;
+mod api_error;
+mod api_request;
 mod body;
-mod denial;
 mod laws;
 mod operation;
 mod paths;
 mod respond;
 mod route;
 mod stream;
-mod wish;
 
 pub use answer::Answer;
-pub use denial::Denial;
+pub use api_error::ApiError;
+pub use api_request::ApiRequest;
 pub use laws::{replies_are_listed, streams_are_transcripts, streams_write_in_turn};
 pub use lra_clocks::Clock;
-pub use operation::{Operation, Place};
+pub use operation::{Operation, Resource};
 pub use paths::{Path, PathRouter};
 pub use route::{Routes, id_in};
 pub use stream::{Served, StreamEnd, fault_answer, serve_request, serve_stream};
-pub use wish::Wish;

@@ -7,7 +7,7 @@ use crate::paths::Path;
 
 /// Resource that a path names.
 #[derive(Clone, Copy, Debug, PartialEq, Eq, Drop)]
-pub enum Place {
+pub enum Resource {
     /// Resource at which actions are started.
     Actions,
     /// Action.
@@ -47,39 +47,39 @@ pub enum Operation {
     Report,
 }
 
-impl Path for Place {
-    ghost use Rattle.lra_front.specs.Operations.{places, path_of as path_at};
+impl Path for Resource {
+    ghost use Rattle.lra_front.specs.Operations.{resources, path_of as path_at};
 
-    ghost all = { places };
+    ghost all = { resources };
 
     ghost path_of = { path_at };
 
-    fn all() -> &'static [Place] {
+    fn all() -> &'static [Resource] {
         &[
-            Place::Actions,
-            Place::Action,
-            Place::Close,
-            Place::Cancel,
-            Place::Remove,
-            Place::Renew,
-            Place::Member,
+            Resource::Actions,
+            Resource::Action,
+            Resource::Close,
+            Resource::Cancel,
+            Resource::Remove,
+            Resource::Renew,
+            Resource::Member,
         ]
     }
 
     fn path(self) -> &'static str {
         match self {
-            Place::Actions => "/lra-coordinator",
-            Place::Action => "/lra-coordinator/{id}",
-            Place::Close => "/lra-coordinator/{id}/close",
-            Place::Cancel => "/lra-coordinator/{id}/cancel",
-            Place::Remove => "/lra-coordinator/{id}/remove",
-            Place::Renew => "/lra-coordinator/{id}/renew",
-            Place::Member => "/lra-recovery/{id}",
+            Resource::Actions => "/lra-coordinator",
+            Resource::Action => "/lra-coordinator/{id}",
+            Resource::Close => "/lra-coordinator/{id}/close",
+            Resource::Cancel => "/lra-coordinator/{id}/cancel",
+            Resource::Remove => "/lra-coordinator/{id}/remove",
+            Resource::Renew => "/lra-coordinator/{id}/renew",
+            Resource::Member => "/lra-recovery/{id}",
         }
     }
 }
 
-impl Place {
+impl Resource {
     /// Returns the operation that a method asks for at this resource, if there is one.
     pub(crate) fn operation(self, method: &str) -> Option<Operation>
         ensures { result ≡ spec.operation_at method.now self }
@@ -97,9 +97,9 @@ impl Place {
         ensures { result.now ≡ spec.allowed self }
     {
         match self {
-            Place::Actions => "POST",
-            Place::Action | Place::Member => "GET, PUT",
-            Place::Close | Place::Cancel | Place::Remove | Place::Renew => "PUT",
+            Resource::Actions => "POST",
+            Resource::Action | Resource::Member => "GET, PUT",
+            Resource::Close | Resource::Cancel | Resource::Remove | Resource::Renew => "PUT",
         }
     }
 }
@@ -119,17 +119,17 @@ impl Operation {
     ];
 
     /// Returns the resource that the operation's path names.
-    pub fn place(self) -> Place
-        ensures { result ≡ spec.named_place self }
+    pub fn resource(self) -> Resource
+        ensures { result ≡ spec.named_resource self }
     {
         match self {
-            Operation::Start => Place::Actions,
-            Operation::Status | Operation::Join => Place::Action,
-            Operation::Close => Place::Close,
-            Operation::Cancel => Place::Cancel,
-            Operation::Remove => Place::Remove,
-            Operation::Renew => Place::Renew,
-            Operation::MemberStatus | Operation::Report => Place::Member,
+            Operation::Start => Resource::Actions,
+            Operation::Status | Operation::Join => Resource::Action,
+            Operation::Close => Resource::Close,
+            Operation::Cancel => Resource::Cancel,
+            Operation::Remove => Resource::Remove,
+            Operation::Renew => Resource::Renew,
+            Operation::MemberStatus | Operation::Report => Resource::Member,
         }
     }
 
@@ -137,7 +137,7 @@ impl Operation {
     pub fn path(self) -> &'static str
         ensures { result.now ≡ spec.path self }
     {
-        self.place().path()
+        self.resource().path()
     }
 
     /// Returns the operation's method.
@@ -220,9 +220,9 @@ impl Operation {
     }
 
     /// Returns whether a method asks for the operation at a resource.
-    fn is_asked(self, method: &str, place: Place) -> bool
-        ensures { result ≡ spec.is_asked method.now place self }
+    fn is_asked(self, method: &str, resource: Resource) -> bool
+        ensures { result ≡ spec.is_asked method.now resource self }
     {
-        self.path() == place.path() && method == self.method()
+        self.path() == resource.path() && method == self.method()
     }
 }

@@ -6,48 +6,51 @@ ghost use Rattle.lra_front.specs.Serving.{Answers, Orders, Responds, TellsOf};
 ghost use Rattle.lra_front.specs.inner.Tellable.{IsAnswerable, IsTellable};
 
 use crate::answer::Answer;
-use crate::denial::Denial;
+use crate::api_error::ApiError;
+use crate::api_request::ApiRequest;
 use crate::route::Routes;
-use crate::wish::Wish;
 use lra_commands::{Counter, CounterFault, Told};
 use lra_wire::RequestRead;
 use std::alloc::Global;
 
 /// Returns the answer to an API request, from what the counter returned for it.
-fn told(wish: &Wish, told: Told) -> Answer
-    requires { IsTellable wish.now told }
-    ensures answer { TellsOf wish.now told result }
+fn told(api_request: &ApiRequest, told: Told) -> Answer
+    requires { IsTellable api_request.now told }
+    ensures answer { TellsOf api_request.now told result }
     ensures identifiers { HasIdentifiers result }
 {
-    match (wish, told) {
-        (Wish::Start { .. }, Told::Action(action)) => Answer::Started(action),
-        (Wish::Join { .. }, Told::Member(member)) => Answer::Joined(member),
-        (Wish::Join { .. }, Told::AlreadyMember(member)) => Answer::Joined(member),
-        (Wish::Leave { .. }, Told::Left) => Answer::Left,
-        (Wish::Close { .. } | Wish::Cancel { .. }, Told::Now(status)) => Answer::Turned(status),
-        (Wish::Close { .. } | Wish::Cancel { .. }, Told::Already(status)) => Answer::Turned(status),
-        (Wish::Renew { .. }, Told::Renewed) => Answer::Renewed,
-        (Wish::Status { action }, Told::ActionIs(status)) => Answer::Found {
+    match (api_request, told) {
+        (ApiRequest::Start { .. }, Told::Action(action)) => Answer::Started(action),
+        (ApiRequest::Join { .. }, Told::Member(member)) => Answer::Joined(member),
+        (ApiRequest::Join { .. }, Told::AlreadyMember(member)) => Answer::Joined(member),
+        (ApiRequest::Leave { .. }, Told::Left) => Answer::Left,
+        (ApiRequest::Close { .. } | ApiRequest::Cancel { .. }, Told::Now(status)) => Answer::Turned(
+            status,
+        ),
+        (ApiRequest::Close { .. } | ApiRequest::Cancel { .. }, Told::Already(status)) =>
+            Answer::Turned(status),
+        (ApiRequest::Renew { .. }, Told::Renewed) => Answer::Renewed,
+        (ApiRequest::Status { action }, Told::ActionIs(status)) => Answer::Found {
             action: *action,
             status,
         },
-        (Wish::Report { .. }, Told::MemberNow(status)) => Answer::Member(status),
-        (Wish::Report { .. }, Told::MemberAlready(status)) => Answer::Member(status),
-        (Wish::MemberStatus { .. }, Told::MemberIs(status)) => Answer::Member(status),
+        (ApiRequest::Report { .. }, Told::MemberNow(status)) => Answer::Member(status),
+        (ApiRequest::Report { .. }, Told::MemberAlready(status)) => Answer::Member(status),
+        (ApiRequest::MemberStatus { .. }, Told::MemberIs(status)) => Answer::Member(status),
         _ => unreachable!(),
     }
 }
 
 /// Returns the answer to an API request, from the counter's reply.
-fn answer(wish: &Wish, reply: Result<Told, CounterFault>) -> Answer
-    requires { IsAnswerable wish.now reply }
-    ensures answer { Answers wish.now reply result }
+fn answer(api_request: &ApiRequest, reply: Result<Told, CounterFault>) -> Answer
+    requires { IsAnswerable api_request.now reply }
+    ensures answer { Answers api_request.now reply result }
     ensures identifiers { HasIdentifiers result }
 {
     match reply {
-        Ok(words) => told(wish, words),
-        Err(CounterFault::Refused(refusal)) => Answer::Denied(Denial::Refused(refusal)),
-        Err(CounterFault::Worn) => Answer::Denied(Denial::Worn),
+        Ok(words) => told(api_request, words),
+        Err(CounterFault::Refused(refusal)) => Answer::Denied(ApiError::Refused(refusal)),
+        Err(CounterFault::Worn) => Answer::Denied(ApiError::Worn),
     }
 }
 
@@ -81,12 +84,12 @@ impl Routes {
             (C.sight counter.new) result.0 result.1 }
         ensures identifiers { HasIdentifiers result.0 }
     {
-        match self.wish(alloc, counter.instance(), counter.base(), request) {
-            Ok(wish) => {
-                let reply = counter.give(moment, &wish.order());
-                (answer(&wish, reply), true)
+        match self.api_request(alloc, counter.instance(), counter.base(), request) {
+            Ok(api_request) => {
+                let reply = counter.give(moment, &api_request.order());
+                (answer(&api_request, reply), true)
             }
-            Err(denial) => (Answer::Denied(denial), false),
+            Err(api_error) => (Answer::Denied(api_error), false),
         }
     }
 }

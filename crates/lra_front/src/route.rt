@@ -4,8 +4,8 @@ ghost use Rattle.std.specs.Prelude.{◌≡◌};
 ghost use Rattle.std.specs.List.{before_first, after_first};
 ghost use Rattle.lra_front.specs.Routes.{is_slash, has_query, place_of, id_in, operation_of};
 
-use crate::denial::Denial;
-use crate::operation::{Operation, Place};
+use crate::api_error::ApiError;
+use crate::operation::{Operation, Resource};
 use crate::paths::PathRouter;
 use lra_model::Memory;
 use std::alloc::Global;
@@ -13,7 +13,7 @@ use std::alloc::Global;
 /// Router of the paths that are served.
 #[derive(Drop)]
 pub struct Routes {
-    router: PathRouter<Place>,
+    router: PathRouter<Resource>,
 }
 
 /// Returns the text after the first slash, or nothing where there is none.
@@ -60,7 +60,7 @@ impl Routes {
 
     /// Returns the resource that a target names, if it names one. A target with a query names none.
     #[tactic(auto, unfolding(crate::specs::Routes::place_of))]
-    fn place(&self, target: &str) -> Option<Place>
+    fn resource(&self, target: &str) -> Option<Resource>
         ensures { result ≡ place_of target.now }
     {
         if has_query(target) {
@@ -70,15 +70,15 @@ impl Routes {
     }
 
     /// Returns the operation that a request asks for. It checks the path first, then the method.
-    pub fn operation(&self, method: &str, target: &str) -> Result<Operation, Denial>
+    pub fn operation(&self, method: &str, target: &str) -> Result<Operation, ApiError>
         ensures { result ≡ operation_of method.now target.now }
     {
-        let Some(place) = self.place(target) else {
-            return Err(Denial::NoSuchPath);
+        let Some(resource) = self.resource(target) else {
+            return Err(ApiError::NoSuchPath);
         };
-        match place.operation(method) {
+        match resource.operation(method) {
             Some(operation) => Ok(operation),
-            None => Err(Denial::BadMethod(place)),
+            None => Err(ApiError::BadMethod(resource)),
         }
     }
 }

@@ -8,7 +8,7 @@ ghost use Rattle.lra_front.specs.Streams as spec;
 ghost use Rattle.lra_front.specs.inner.Sending.{Denies, Exchanges};
 
 use crate::answer::Answer;
-use crate::denial::Denial;
+use crate::api_error::ApiError;
 use crate::route::Routes;
 use http::Method;
 use lra_clocks::Clock;
@@ -42,12 +42,12 @@ pub fn fault_answer(fault: WireFault) -> Option<Answer>
     ensures { result ≡ spec.fault_answer fault }
 {
     match fault {
-        WireFault::BadHead => Some(Answer::Denied(Denial::BadHead)),
-        WireFault::Chunked => Some(Answer::Denied(Denial::Chunked)),
-        WireFault::BadLength => Some(Answer::Denied(Denial::BadLength)),
-        WireFault::TooLarge => Some(Answer::Denied(Denial::TooLarge)),
+        WireFault::BadHead => Some(Answer::Denied(ApiError::BadHead)),
+        WireFault::Chunked => Some(Answer::Denied(ApiError::Chunked)),
+        WireFault::BadLength => Some(Answer::Denied(ApiError::BadLength)),
+        WireFault::TooLarge => Some(Answer::Denied(ApiError::TooLarge)),
         WireFault::Cut | WireFault::Io => None,
-        WireFault::Memory => Some(Answer::Denied(Denial::Refused(Refusal::Memory))),
+        WireFault::Memory => Some(Answer::Denied(ApiError::Refused(Refusal::Memory))),
     }
 }
 

@@ -4,8 +4,8 @@ use Rattle.std.proofs.Common.{◌∷◌, length, sum_by, inl, inr, refl, sym, su
 use Rattle.std.proofs.lemmas.Bool.{cases_eq}
 use Rattle.std.proofs.lemmas.Bool.Decides.{nat_tests}
 use Rattle.std.proofs.lemmas.List.Sums.{sum_by-cons}
-use Rattle.lra_logs.specs.declared.meter.Verdict.{Verdict}
-use Rattle.lra_logs.specs.declared.meter.Verdict.TheVariants.{Write, WriteAfter, Suppress}
+use Rattle.lra_logs.specs.declared.rate_limiter.Verdict.{Verdict}
+use Rattle.lra_logs.specs.declared.rate_limiter.Verdict.TheVariants.{Write, WriteAfter, Suppress}
 use Rattle.lra_logs.specs.Meters.{Pace, Coming, at_rest, turned, share, unless_urgent, verdict_at, after, run, ran}
 use Rattle.lra_logs.specs.Meters.{lines, told, AreFew, AreCounted, AreHeard}
 

@@ -1,8 +1,8 @@
 -- How many lines are written in a second.
 use Rattle.std.specs.Prelude.{◌≡◌, ◌≢◌, Bool, true, ℕ, ◌+◌, ◌-◌, ◌/◌, ◌^◌, ◌<◌, ◌≤◌, ◌==◌, nat_lt, min, if◌then◌else◌}
 use Rattle.std.specs.Prelude.{List, [], ◌∷◌, length, sum_by}
-use Rattle.lra_logs.specs.declared.meter.Verdict.{Verdict}
-use Rattle.lra_logs.specs.declared.meter.Verdict.TheVariants.{Write, WriteAfter, Suppress}
+use Rattle.lra_logs.specs.declared.rate_limiter.Verdict.{Verdict}
+use Rattle.lra_logs.specs.declared.rate_limiter.Verdict.TheVariants.{Write, WriteAfter, Suppress}
 
 -- a second, how many lines were written in it, and how many lines weren't written and weren't reported yet
 pub record Pace : Type 0 where

@@ -2,29 +2,29 @@
 //! bounds how many lines a second has.
 #![tactic(auto)]
 
-mod chronicle;
+mod ask_tracker;
 mod escaping;
 mod event;
+mod event_sink;
+mod file_tail;
 mod format;
-mod journalist;
+mod journal_events;
 mod laws;
 mod level;
 mod line;
 mod logbook;
-mod meter;
+mod rate_limiter;
 mod saying;
-mod tail;
 mod time;
-mod vigil;
 
-pub use chronicle::Chronicle;
 pub use event::{Event, Field, Key, Port, Shown, level_of};
+pub use event_sink::{EventSink, NullSink};
+pub use file_tail::FileTail;
 pub use format::Format;
-pub use journalist::{Journalist, Nobody};
+pub use journal_events::JournalEvents;
 pub use laws::lines_are_few;
 pub use level::{Level, LevelFilter, level_named, level_word};
 pub use line::{line_of, told_line};
 pub use logbook::{Logbook, has_priorities};
-pub use meter::{Meter, Verdict};
-pub use tail::Tail;
+pub use rate_limiter::{RateLimiter, Verdict};
 pub use time::time_text;

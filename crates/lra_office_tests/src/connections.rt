@@ -78,7 +78,7 @@ where
 fn answers_one<V: Serving, R: Wait>(
     rt: &R,
     alloc: Global,
-    door: &Mutex<TcpListener>,
+    acceptor: &Mutex<TcpListener>,
     office: &OfficeOf<V>,
     clerk: Clerk<V>,
 ) -> (Clerk<V>, bool)
@@ -87,7 +87,7 @@ fn answers_one<V: Serving, R: Wait>(
     ensures { IsClerkOf office.now.lock V.covers result.0 }
 {
     let mut clock = Still;
-    let (clerk, end) = serve_connections(rt, alloc, door, office, clerk, &mut clock, 1);
+    let (clerk, end) = serve_connections(rt, alloc, acceptor, office, clerk, &mut clock, 1);
     (clerk, end == ServeEnd::Done)
 }
 
@@ -95,7 +95,7 @@ fn answers_one<V: Serving, R: Wait>(
 fn two_answer<V: Serving + Send, R: Threads + Wait + Sync>(
     rt: &R,
     alloc: Global,
-    door: &Mutex<TcpListener>,
+    acceptor: &Mutex<TcpListener>,
     office: &OfficeOf<V>,
     first: Clerk<V>,
     second: Clerk<V>,
@@ -112,12 +112,12 @@ fn two_answer<V: Serving + Send, R: Threads + Wait + Sync>(
             requires { IsClerkOf office.now.lock V.covers first × IsOfficeOf (V.setting (clerk_view first).origin)
                 office.now }
             ensures { IsClerkOf office.entry.now.lock V.covers result.0 }
-        { answers_one(rt, alloc, door, office, first) },
+        { answers_one(rt, alloc, acceptor, office, first) },
         move || -> (Clerk<V>, bool)
             requires { IsClerkOf office.now.lock V.covers second × IsOfficeOf (V.setting (clerk_view second).origin)
                 office.now }
             ensures { IsClerkOf office.entry.now.lock V.covers result.0 }
-        { answers_one(rt, alloc, door, office, second) },
+        { answers_one(rt, alloc, acceptor, office, second) },
     );
     let (clerk, has_ended) = one;
     let (other, other_has_ended) = other;
@@ -138,7 +138,7 @@ fn visited<
     alloc: Global,
     office: &OfficeOf<V>,
     pass: Pass<V>,
-    door: &Mutex<TcpListener>,
+    acceptor: &Mutex<TcpListener>,
     address: SocketAddr,
 ) -> Result<(Clerk<V>, Visited), Fail>
     requires lock { pass_id pass ≡ lock_id office.now.lock }
@@ -154,7 +154,7 @@ fn visited<
                 × IsOfficeOf (V.setting (clerk_view first).origin) office.now
                 × IsOfficeOf (V.setting (clerk_view second).origin) office.now × IsSync R.row }
             ensures { IsClerkOf office.entry.now.lock V.covers result.0 }
-        { two_answer(rt, alloc, door, office, first, second) },
+        { two_answer(rt, alloc, acceptor, office, first, second) },
         move || visit(rt, alloc, address),
     );
     Ok((clerk, (have_ended, replies)))
@@ -168,11 +168,11 @@ fn visited_at<
     rt: &R,
     alloc: Global,
     writer: W,
-    door: &Mutex<TcpListener>,
+    acceptor: &Mutex<TcpListener>,
     address: SocketAddr,
 ) -> Result<(W, Visited), Fail> {
     let (office, pass) = made(alloc, writer)?;
-    let worked = visited(rt, alloc, &office, pass, door, address);
+    let worked = visited(rt, alloc, &office, pass, acceptor, address);
     shut(office, worked)
 }
 
@@ -181,8 +181,8 @@ fn two_threads_answer_connections(rt: HostRuntime) -> Result<(), Fail> {
     let alloc = rt.alloc();
     let listener = TcpListener::bind(&rt, SocketAddr::from((Ipv4Addr::LOCALHOST, 0)))?;
     let address = listener.local_addr()?;
-    let door = Mutex::new(listener);
-    let (_, (have_ended, replies)) = visited_at(&rt, alloc, Vec::new(alloc), &door, address)?;
+    let acceptor = Mutex::new(listener);
+    let (_, (have_ended, replies)) = visited_at(&rt, alloc, Vec::new(alloc), &acceptor, address)?;
     assert!(rt; have_ended);
     assert_eq!(rt; from_utf8(&replies?)?, REPLIES);
     Ok(())

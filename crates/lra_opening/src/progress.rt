@@ -2,7 +2,7 @@
 
 ghost use Rattle.std.specs.Prelude.{◌≡◌};
 
-use crate::herald::Herald;
+use crate::notifier::Notifier;
 use std::alloc::Global;
 use std::io;
 use std::io::Read;
@@ -21,7 +21,7 @@ pub(crate) struct Progress<'a, F, R, H> {
     reader: F,
     alloc: Global,
     clock: &'a R,
-    herald: &'a H,
+    notifier: &'a H,
     name: &'a str,
     /// Number of bytes that the file has.
     all: u64,
@@ -38,13 +38,13 @@ fn next_due<R: Clock>(clock: &R) -> Option<Instant> {
         .checked_add(Duration::from_secs(PAUSE))
 }
 
-impl<'a, F: Read, R: Clock, H: Herald> Progress<'a, F, R, H> {
+impl<'a, F: Read, R: Clock, H: Notifier> Progress<'a, F, R, H> {
     /// Returns a reader of the file of a name that has so many bytes.
     pub(crate) fn new(
         reader: F,
         alloc: Global,
         clock: &'a R,
-        herald: &'a H,
+        notifier: &'a H,
         name: &'a str,
         all: u64,
     ) -> Progress<'a, F, R, H> {
@@ -52,7 +52,7 @@ impl<'a, F: Read, R: Clock, H: Herald> Progress<'a, F, R, H> {
             reader,
             alloc,
             clock,
-            herald,
+            notifier,
             name,
             all,
             read: 0,
@@ -69,22 +69,22 @@ impl<'a, F: Read, R: Clock, H: Herald> Progress<'a, F, R, H> {
     }
 
     /// Reports how far it is.
-    fn tell(&self) {
+    fn notify(&self) {
         let (name, read, all) = (self.name, self.read / MEGABYTE, self.all / MEGABYTE);
         if let Ok(line) = format!(in self.alloc; "lra: reading {name}: {read} of {all} MB\n") {
-            self.herald.tell(&line);
+            self.notifier.notify(&line);
         }
     }
 }
 
-impl<F: Read, R: Clock, H: Herald> Read for Progress<'_, F, R, H> {
+impl<F: Read, R: Clock, H: Notifier> Read for Progress<'_, F, R, H> {
     ghost remaining = { λ p. F.remaining p.reader };
 
     fn read(&mut self, buf: &mut [u8]) -> io::Result<usize> {
         let count = self.reader.read(buf)?;
         self.read = self.read.saturating_add(count as u64);
         if self.is_due() {
-            self.tell();
+            self.notify();
             self.due = next_due(self.clock);
         }
         Ok(count)

@@ -2,7 +2,7 @@
 
 use crate::fault::{OptionsFault, one_line, wrong};
 use crate::number::value_in;
-use crate::said::{Said, Word};
+use crate::said::{RawOptions, Word};
 use lra_files::{SmallFault, read_whole};
 use lra_settings::{Given, Parameter};
 use std::alloc::{AllocError, Global};
@@ -17,7 +17,7 @@ const LONGEST: u32 = 65_536;
 #[derive(Drop)]
 pub(crate) struct Config {
     pub(crate) given: Given,
-    pub(crate) said: Said,
+    pub(crate) said: RawOptions,
 }
 
 impl Config {
@@ -25,7 +25,7 @@ impl Config {
     pub(crate) fn nothing(alloc: Global) -> Config {
         Config {
             given: Given::nothing(),
-            said: Said::nothing(alloc),
+            said: RawOptions::nothing(alloc),
         }
     }
 }
@@ -88,7 +88,7 @@ fn note_texts(
     place: &str,
     word: Word,
     value: &Value,
-    said: &mut Said,
+    said: &mut RawOptions,
 ) -> Result<(), OptionsFault> {
     let Some(values) = value.as_array() else {
         return Err(wrong(format!(in alloc; "{place}: no list")));

@@ -11,4 +11,4 @@ mod said;
 
 pub use fault::OptionsFault;
 pub use options::{Options, read_options};
-pub use said::{Said, Word};
+pub use said::{RawOptions, Word};

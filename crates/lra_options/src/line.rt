@@ -2,7 +2,7 @@
 
 use crate::fault::{OptionsFault, one_line, wrong};
 use crate::number::{number_in, out_of_range, value_in};
-use crate::said::{Said, Word};
+use crate::said::{RawOptions, Word};
 use clap::error::ErrorKind;
 use clap::{Arg, ArgAction, ArgMatches, Command, Error};
 use lra_settings::{Given, Parameter};
@@ -19,7 +19,7 @@ pub(crate) struct Line<'a> {
     pub(crate) workers: u32,
     /// File with further settings, if one is named.
     pub(crate) config: Option<&'a str>,
-    pub(crate) said: Said,
+    pub(crate) said: RawOptions,
     /// Mark that a folder accepts no more starts, and is served until all its work is done.
     pub(crate) drains: bool,
     /// Mark that a folder was restored from a copy.
@@ -243,7 +243,7 @@ fn note_texts(
     alloc: Global,
     matches: &ArgMatches<'_>,
     word: Word,
-    said: &mut Said,
+    said: &mut RawOptions,
 ) -> Result<(), AllocError> {
     if let Some(texts) = matches.get_strs(word.name()) {
         for text in texts {
@@ -254,8 +254,8 @@ fn note_texts(
 }
 
 /// Returns the values of the options that are texts.
-fn said_in(alloc: Global, matches: &ArgMatches<'_>) -> Result<Said, AllocError> {
-    let mut said = Said::nothing(alloc);
+fn said_in(alloc: Global, matches: &ArgMatches<'_>) -> Result<RawOptions, AllocError> {
+    let mut said = RawOptions::nothing(alloc);
     for word in &Word::ALL {
         if word.is_list() {
             note_texts(alloc, matches, *word, &mut said)?;

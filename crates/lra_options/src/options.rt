@@ -6,7 +6,7 @@ ghost use Rattle.lra_settings.specs.Settings.{are_fit};
 use crate::config::{Config, read_config};
 use crate::fault::{OptionsFault, wrong};
 use crate::line::{Line, read_line};
-use crate::said::{Said, Word};
+use crate::said::{RawOptions, Word};
 use lra_ids::Base;
 use lra_settings::{Given, Settings, settings_of};
 use std::alloc::{AllocError, Global};
@@ -26,7 +26,7 @@ pub struct Options<'a> {
     /// counts.
     pub also_bases: Vec<Base>,
     /// Values of the options that are texts.
-    pub said: Said,
+    pub said: RawOptions,
     /// Mark that a folder accepts no more starts, and is served until all its work is done.
     pub drains: bool,
     /// Mark that a folder was restored from a copy. The journals that it has accept no new work.
@@ -81,7 +81,7 @@ fn place_of(alloc: Global, word: Word, config: Option<&str>) -> Result<String, A
 /// Reads the bases that an option has on the command line, or in that file.
 fn bases_in(
     alloc: Global,
-    said: &Said,
+    said: &RawOptions,
     word: Word,
     config: Option<&str>,
 ) -> Result<Vec<Base>, OptionsFault> {
@@ -97,7 +97,7 @@ fn bases_in(
 fn bases_of(
     alloc: Global,
     line: &Line<'_>,
-    file: &Said,
+    file: &RawOptions,
     word: Word,
 ) -> Result<Vec<Base>, OptionsFault> {
     let bases = bases_in(alloc, &line.said, word, None)?;

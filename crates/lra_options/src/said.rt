@@ -118,28 +118,28 @@ impl Word {
 
 /// A value of an option.
 #[derive(Drop)]
-struct Saying {
+struct RawOption {
     word: Word,
     text: String,
 }
 
 /// Values of the options that are texts, from one source.
 #[derive(Drop)]
-pub struct Said {
-    sayings: Vec<Saying>,
+pub struct RawOptions {
+    sayings: Vec<RawOption>,
 }
 
-impl Said {
+impl RawOptions {
     /// Returns no values.
-    pub fn nothing(alloc: Global) -> Said {
-        Said {
+    pub fn nothing(alloc: Global) -> RawOptions {
+        RawOptions {
             sayings: Vec::new(alloc),
         }
     }
 
     /// Adds a value of an option.
     pub(crate) fn add(&mut self, word: Word, text: String) -> Result<(), AllocError> {
-        self.sayings.push(Saying { word, text })?;
+        self.sayings.push(RawOption { word, text })?;
         Ok(())
     }
 
@@ -170,8 +170,8 @@ impl Said {
     }
 
     /// Adds another source's values of each option that has none here.
-    fn add_others(&mut self, other: Said) -> Result<(), AllocError> {
-        let mut missing = Said::nothing(*self.sayings.allocator());
+    fn add_others(&mut self, other: RawOptions) -> Result<(), AllocError> {
+        let mut missing = RawOptions::nothing(*self.sayings.allocator());
         for saying in other.sayings {
             if !self.has(saying.word) {
                 missing.sayings.push(saying)?;
@@ -184,7 +184,7 @@ impl Said {
     }
 
     /// Returns the values of the command line, and the file's values of the options that the line doesn't give.
-    pub(crate) fn or(self, file: Said) -> Result<Said, AllocError> {
+    pub(crate) fn or(self, file: RawOptions) -> Result<RawOptions, AllocError> {
         let mut said = self;
         match said.add_others(file) {
             Ok(()) => Ok(said),

@@ -2,13 +2,13 @@
 #![tactic(auto)]
 
 mod attempt;
-mod book;
+mod attempt_table;
 mod outcomes;
 mod reply;
 mod telling;
 
 pub use attempt::Attempt;
-pub use book::MOST;
+pub use attempt_table::MOST;
 pub use outcomes::Outcomes;
 pub use reply::{Reply, put_words};
 pub use telling::is_telling;

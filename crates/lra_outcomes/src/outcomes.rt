@@ -1,7 +1,7 @@
 //! The last callbacks, which several threads note and read.
 
 use crate::attempt::Attempt;
-use crate::book::Book;
+use crate::attempt_table::AttemptTable;
 use crate::reply::Reply;
 use std::alloc::{AllocError, Global};
 use std::collections::HashSet;
@@ -13,7 +13,7 @@ use std::sync::{Mutex, Wait};
 #[derive(Drop)]
 pub struct Outcomes {
     alloc: Global,
-    book: Mutex<Book>,
+    attempt_table: Mutex<AttemptTable>,
     /// Members that get no more callbacks about the end of their action, since operators gave them up.
     given_up: Mutex<HashSet<u64>>,
     /// Flag that `given_up` may have members. It spares a lock while it never had one.
@@ -25,7 +25,7 @@ impl Outcomes {
     pub fn new(alloc: Global) -> Outcomes {
         Outcomes {
             alloc,
-            book: Mutex::new(Book::new(alloc)),
+            attempt_table: Mutex::new(AttemptTable::new(alloc)),
             given_up: Mutex::new(HashSet::new(alloc)),
             gives_up: AtomicBool::new(false),
         }
@@ -35,15 +35,15 @@ impl Outcomes {
     pub fn note<R: Wait>(&self, rt: &R, member: u64, address: &str, reply: Reply, moment: u64) {
         match Attempt::new(self.alloc, address, reply, moment) {
             Ok(attempt) => {
-                self.book.lock(rt).note(member, attempt);
+                self.attempt_table.lock(rt).note(member, attempt);
             }
-            Err(AllocError) => self.book.lock(rt).drop_one(),
+            Err(AllocError) => self.attempt_table.lock(rt).drop_one(),
         }
     }
 
     /// Forgets the callback of a member that advanced.
     pub fn forget<R: Wait>(&self, rt: &R, member: u64) {
-        self.book.lock(rt).forget(member);
+        self.attempt_table.lock(rt).forget(member);
     }
 
     /// Copies the last callback of a member, if one is remembered.
@@ -53,7 +53,7 @@ impl Outcomes {
         alloc: Global,
         member: u64,
     ) -> Result<Option<Attempt>, AllocError> {
-        self.book.lock(rt).find(alloc, member)
+        self.attempt_table.lock(rt).find(alloc, member)
     }
 
     /// Marks a member as given up: it gets no more callbacks about the end of its action.
@@ -75,6 +75,6 @@ impl Outcomes {
 
     /// Returns how many callbacks found no room.
     pub fn dropped<R: Wait>(&self, rt: &R) -> u64 {
-        self.book.lock(rt).dropped()
+        self.attempt_table.lock(rt).dropped()
     }
 }

@@ -1,8 +1,8 @@
 //! Log lines with their moments, and the events that a journal's bytes report.
 
 use lra_logs::{
-    Chronicle, Event, Format, Level, LevelFilter, Logbook, Port, level_named, line_of, time_text,
-    told_line,
+    Event, Format, JournalEvents, Level, LevelFilter, Logbook, Port, level_named, line_of,
+    time_text, told_line,
 };
 use lra_model::{ActionStatus, Instance};
 use lra_outcomes::Reply;
@@ -242,10 +242,10 @@ fn told_of(alloc: Global, size: usize, less: usize) -> Option<String> {
     }
     let text = journal_text(alloc)?;
     let bytes = text.as_str().as_bytes();
-    let mut chronicle = Chronicle::new(alloc, Instance::new(7)?);
+    let mut journal_events = JournalEvents::new(alloc, Instance::new(7)?);
     let mut events = Vec::new(alloc);
     for piece in bytes.get(..bytes.len().saturating_sub(less))?.chunks(size) {
-        chronicle.read(piece, &mut events);
+        journal_events.read(piece, &mut events);
     }
     let mut told = String::new(alloc);
     for event in &events {
@@ -279,12 +279,12 @@ fn what_is_written_is_told(rt: HostRuntime) {
 /// there is no memory for the journal's text.
 fn counted(alloc: Global) -> Option<(usize, u64)> {
     let text = journal_text(alloc)?;
-    let mut chronicle = Chronicle::new(alloc, Instance::new(7)?);
+    let mut journal_events = JournalEvents::new(alloc, Instance::new(7)?);
     let mut events = Vec::new(alloc);
     for piece in text.as_str().as_bytes().chunks(100) {
-        chronicle.read(piece, &mut events);
+        journal_events.read(piece, &mut events);
     }
-    Some((events.len(), chronicle.lost()))
+    Some((events.len(), journal_events.lost()))
 }
 
 /// Returns whether no line was lost and all 6 events were reported, or lines were lost and at most 6 events were

@@ -1,10 +1,10 @@
 //! Report of what would be served of a folder, without serving it.
 
-use crate::running::FolderServed;
+use crate::running::FolderOutcome;
 use lra_ids::Base;
 use lra_journal_folder::{Folder, RollingFault, Sound, Unsound, audit_all};
-use lra_opening::{Herald, ServeFault};
-use lra_service::{Site, put_number, put_olders, put_settings, put_text, site_at};
+use lra_opening::{Notifier, ServeFault};
+use lra_service::{ServiceSite, put_number, put_olders, put_settings, put_text, site_at};
 use lra_settings::Settings;
 use std::alloc::Global;
 use std::fs::File;
@@ -13,10 +13,10 @@ use std::rt::Files;
 use std::time::Clock;
 
 /// Writes the report on sound journals.
-fn tell<W: Write>(
+fn write_report<W: Write>(
     alloc: Global,
     address: &str,
-    site: &Site,
+    site: &ServiceSite,
     olders: &[Base],
     path: &str,
     sounds: &[Sound],
@@ -44,7 +44,7 @@ fn tell<W: Write>(
 /// written.
 pub fn check_folder<
     R: Files<File = File> + AllocGlobal + Clone + Drop + Clock,
-    V: Herald,
+    V: Notifier,
     W: Write,
 >(
     rt: &R,
@@ -56,18 +56,18 @@ pub fn check_folder<
     settings: &Settings,
     watcher: &V,
     writer: &mut W,
-) -> Result<FolderServed, RollingFault> {
+) -> Result<FolderOutcome, RollingFault> {
     let alloc = rt.alloc();
     let site = site_at(alloc, address, base)?;
     let folder = Folder::open(rt, path)?;
     let contents = folder.contents()?;
     match audit_all(rt, &folder, &contents, watcher, writer)? {
-        Err(Unsound { status, path }) => Ok(FolderServed::Unsound { status, path }),
+        Err(Unsound { status, path }) => Ok(FolderOutcome::Unsound { status, path }),
         Ok(sounds) => {
-            tell(
+            write_report(
                 alloc, address, &site, olders, path, &sounds, workers, settings, writer,
             )?;
-            Ok(FolderServed::Ended)
+            Ok(FolderOutcome::Ended)
         }
     }
 }

@@ -3,18 +3,18 @@
 #![tactic(auto)]
 
 mod checking;
-mod conduct;
-mod crier;
-mod lookout;
+mod folder_options;
+mod folder_state;
 mod notes;
 mod opening;
+mod operators_view;
 mod preparing;
+mod rotation_manager;
 mod running;
-mod shift;
-mod steward;
+mod wake_relay;
 mod working;
 
 pub use checking::check_folder;
-pub use conduct::Conduct;
+pub use folder_options::FolderOptions;
 pub use lra_journal_folder::{RollingFault, rolling_line};
-pub use running::{FolderServed, serve_folder};
+pub use running::{FolderOutcome, serve_folder};

@@ -8,7 +8,7 @@ use std::sync::{Mutex, Wait};
 
 /// The file of a folder with the members that operators have given up.
 #[derive(Drop)]
-pub(crate) struct Notes {
+pub(crate) struct GivenUpNotes {
     file: Mutex<Option<File>>,
 }
 
@@ -18,10 +18,10 @@ fn add_line(file: &mut File, line: &str) -> bool {
     is_written && file.sync_data().is_ok()
 }
 
-impl Notes {
+impl GivenUpNotes {
     /// Returns the notes in a file, if there is one.
-    pub(crate) fn new(file: Option<File>) -> Notes {
-        Notes {
+    pub(crate) fn new(file: Option<File>) -> GivenUpNotes {
+        GivenUpNotes {
             file: Mutex::new(file),
         }
     }

@@ -3,36 +3,36 @@
 ghost use Rattle.std.specs.Prelude.{◌≡◌, true, All, None};
 ghost use Rattle.lra_opening.specs.Places.{IsRead};
 
-use crate::conduct::{Conduct, first_open, retire};
-use crate::crier::Crier;
-use crate::lookout::Tower;
-use crate::notes::Notes;
-use crate::opening::{Bench, Opener};
-use crate::preparing::Maker;
-use crate::shift::{Shift, duties_of};
-use crate::steward::{Steward, steady};
+use crate::folder_options::{FolderOptions, first_open, retire};
+use crate::folder_state::{FolderState, roles_of};
+use crate::notes::GivenUpNotes;
+use crate::opening::{Opener, OpeningContext};
+use crate::operators_view::OperatorsContext;
+use crate::preparing::JournalFactory;
+use crate::rotation_manager::{RotationManager, steady};
+use crate::wake_relay::WakeRelay;
 use crate::working::work;
 use lra_admission::KeyFiles;
 use lra_audits::RunFault;
-use lra_branch::Clerkship;
 use lra_clocks::milliseconds;
 use lra_durable::SyncGroup;
+use lra_event_loop::AcceptQueue;
 use lra_folders::stray_line;
 use lra_ids::Base;
 use lra_journal_folder::{Contents, Folder, GivenUp, RollingFault, Sound, Unsound, audit_all};
-use lra_logs::{Event, Journalist};
+use lra_logs::{Event, EventSink};
 use lra_model::Instance;
-use lra_opening::{Herald, ServeFault};
+use lra_opening::{Notifier, ServeFault};
+use lra_operators_server::{OperatorsServer, Tallies};
+use lra_registry::{JournalMonitor, JournalRegistry, ServedJournal};
 use lra_rolls::Counts;
-use lra_roster::{Journal, Roster, Watch};
-use lra_rounds::Arrivals;
 use lra_service::{
-    Doorway, Entry, Site, Terms, end_of, fit_descriptors, limits_of, listener_at, make_doorway,
-    site_at,
+    AccessPolicy, ServiceInput, ServiceSite, SocketAcceptor, end_of, fit_descriptors, limits_of,
+    listener_at, make_socket_acceptor, site_at,
 };
+use lra_sessions::JournalSession;
 use lra_settings::{Settings, taken_by_folder};
 use lra_storage::Storage;
-use lra_watchpost::{Tallies, Watchpost};
 use std::alloc::{AllocError, Global};
 use std::fs::File;
 use std::io::{Read, Write};
@@ -48,7 +48,7 @@ const MOST_BYTES: u64 = 1 << 30;
 
 /// End of a service over a folder, without a fault.
 #[derive(Debug, Drop)]
-pub enum FolderServed {
+pub enum FolderOutcome {
     /// The journal of that path isn't sound. The report is written, and this is the program's status.
     Unsound { status: u8, path: String },
     /// The service ended gently: work in flight is recorded or given up, and all is synced.
@@ -78,34 +78,38 @@ fn most_of(settings: &Settings, limit: &Counts) -> Counts {
 
 /// Service over a folder: its means, its settings, and the words that say what it serves.
 #[derive(Drop)]
-struct Service<'a, R, V, H> {
+struct FolderService<'a, R, V, H> {
     rt: &'a R,
     alloc: Global,
     address: &'a str,
-    site: &'a Site,
+    site: &'a ServiceSite,
     /// Access policy of requests.
-    terms: Terms<'a>,
+    access_policy: AccessPolicy<'a>,
     folder: &'a Folder<'a, R>,
     workers: u32,
     settings: Settings,
     /// Notifier of how far journals have been read.
     watcher: &'a V,
-    herald: &'a H,
+    notifier: &'a H,
     /// Operators' server, and what it reports.
-    tower: &'a Tower<'a>,
-    conduct: Conduct<'a>,
+    operators_context: &'a OperatorsContext<'a>,
+    folder_options: FolderOptions<'a>,
     /// Members that operators have given up.
     given_up: &'a [GivenUp],
 }
 
 /// Returns the accept queues of so many connection workers.
-fn arrivals_of<R: Net>(rt: &R, alloc: Global, workers: u32) -> Result<Vec<Arrivals>, RollingFault> {
+fn accept_queue_of<R: Net>(
+    rt: &R,
+    alloc: Global,
+    workers: u32,
+) -> Result<Vec<AcceptQueue>, RollingFault> {
     let mut all = Vec::new(alloc);
     for _worker in 0..workers {
-        let Ok(arrivals) = Arrivals::new(rt, alloc) else {
+        let Ok(accept_queue) = AcceptQueue::new(rt, alloc) else {
             return Err(RollingFault::Here(ServeFault::Address));
         };
-        all.push(arrivals)?;
+        all.push(accept_queue)?;
     }
     Ok(all)
 }
@@ -133,7 +137,7 @@ fn secret_line(alloc: Global, is_read: bool) -> Result<String, AllocError> {
 /// Marks the members that operators have given up in the outcomes of their journals.
 fn give_up_all<R: Wait, B: Drop>(
     rt: &R,
-    watches: &[Watch<B>],
+    watches: &[JournalMonitor<B>],
     given_up: &[GivenUp],
 ) -> Result<(), RollingFault> {
     for given in given_up {
@@ -155,16 +159,16 @@ fn latest(sounds: &[Sound]) -> u64 {
     latest
 }
 
-impl<'a, R, V, H> Service<'a, R, V, H> {
+impl<'a, R, V, H> FolderService<'a, R, V, H> {
     /// Returns the rotation manager of the journals.
-    fn steward<O, B>(
+    fn rotation_manager<O, B>(
         &self,
-        maker: Maker<'a, R, O>,
-        watches: Vec<Watch<B>>,
-    ) -> Steward<'a, R, O, B> {
+        journal_factory: JournalFactory<'a, R, O>,
+        watches: Vec<JournalMonitor<B>>,
+    ) -> RotationManager<'a, R, O, B> {
         let limit = limit_of(&self.settings);
-        Steward {
-            maker,
+        RotationManager {
+            journal_factory,
             address: self.address,
             most: most_of(&self.settings, &limit),
             limit,
@@ -173,77 +177,80 @@ impl<'a, R, V, H> Service<'a, R, V, H> {
             leaving: None,
             falls: 0,
             is_behind: false,
-            tails: Vec::new(self.alloc),
+            file_tails: Vec::new(self.alloc),
             idle: Vec::new(self.alloc),
             is_full: false,
             gives_way: 0,
             next: None,
             retry: 0,
-            has_told: false,
+            has_reported: false,
         }
     }
 }
 
-impl<R: Wait, V, H> Service<'_, R, V, H> {
+impl<R: Wait, V, H> FolderService<'_, R, V, H> {
     /// Returns the registry of the journals.
-    fn roster<B: Drop>(&self, watches: &[Watch<B>]) -> Result<Roster<B>, RollingFault> {
-        let roster = Roster::new(self.alloc);
-        if self.conduct.drains {
-            roster.drain();
+    fn journal_registry<B: Drop>(
+        &self,
+        watches: &[JournalMonitor<B>],
+    ) -> Result<JournalRegistry<B>, RollingFault> {
+        let journal_registry = JournalRegistry::new(self.alloc);
+        if self.folder_options.drains {
+            journal_registry.drain();
         }
         for watch in watches {
-            roster.publish(self.rt, Arc::try_clone(&watch.journal)?)?;
+            journal_registry.publish(self.rt, Arc::try_clone(&watch.journal)?)?;
         }
-        Ok(roster)
+        Ok(journal_registry)
     }
 }
 
-impl<R, V, H: Herald> Service<'_, R, V, H> {
+impl<R, V, H: Notifier> FolderService<'_, R, V, H> {
     /// Reports that the base of identifiers has changed, if the former one is a base.
-    fn tell_base(&self, before: &str) -> Result<(), AllocError> {
+    fn report_base(&self, before: &str) -> Result<(), AllocError> {
         let Some(before) = Base::read(self.alloc, before)? else {
             return Ok(());
         };
         let before = before.as_str();
         let is_read = self
-            .terms
+            .access_policy
             .olders
             .iter()
             .any(|older| older.as_str() == before);
-        let line = if self.terms.is_strict {
+        let line = if self.access_policy.is_strict {
             secret_line(self.alloc, is_read)?
         } else {
             base_line(self.alloc, before, self.site.base.as_str(), is_read)?
         };
-        self.herald.tell(line.as_str());
+        self.notifier.notify(line.as_str());
         Ok(())
     }
 
     /// Reports the names in the folder that the service leaves alone.
-    fn tell_others(&self, contents: &Contents) {
+    fn report_others(&self, contents: &Contents) {
         let path = self.folder.path;
         for name in &contents.others {
             if let Ok(line) = stray_line(self.alloc, path, name.as_str()) {
-                self.herald.tell(line.as_str());
+                self.notifier.notify(line.as_str());
             }
         }
     }
 }
 
-impl<'a, R: Files<File = File> + AllocGlobal + Clone + Drop, V, H> Service<'a, R, V, H> {
+impl<'a, R: Files<File = File> + AllocGlobal + Clone + Drop, V, H> FolderService<'a, R, V, H> {
     /// Returns the factory that prepares the next journals, or a fault if there is no next instance.
-    fn maker<O: Drop>(
+    fn journal_factory<O: Drop>(
         &self,
         storage: &'a Storage,
         opener: O,
         contents: &Contents,
         moment: u64,
-    ) -> Result<Maker<'a, R, O>, RollingFault> {
+    ) -> Result<JournalFactory<'a, R, O>, RollingFault> {
         let newest = self.folder.newest(contents)?;
         let Some(newest) = Instance::new(newest) else {
             return Err(RollingFault::Here(ServeFault::Address));
         };
-        let maker = Maker {
+        let journal_factory = JournalFactory {
             rt: self.rt,
             alloc: self.alloc,
             storage,
@@ -252,12 +259,17 @@ impl<'a, R: Files<File = File> + AllocGlobal + Clone + Drop, V, H> Service<'a, R
             site: u16::try_from(self.settings.site).unwrap_or(u16::MAX),
             newest,
         };
-        let _first = maker.instance(moment)?;
-        Ok(maker)
+        let _first = journal_factory.instance(moment)?;
+        Ok(journal_factory)
     }
 }
 
-impl<R: Files<File = File> + AllocGlobal + Clone + Drop, V, H: Herald> Service<'_, R, V, H> {
+impl<R: Files<File = File> + AllocGlobal + Clone + Drop, V, H: Notifier> FolderService<
+    '_,
+    R,
+    V,
+    H,
+> {
     /// Writes the base of identifiers to the folder. Reports it if the folder was last served with another base.
     fn note_base(&self) -> Result<(), RollingFault> {
         let base = self.site.base.as_str();
@@ -265,7 +277,7 @@ impl<R: Files<File = File> + AllocGlobal + Clone + Drop, V, H: Herald> Service<'
             if before.as_str() == base {
                 return Ok(());
             }
-            self.tell_base(before.as_str())?;
+            self.report_base(before.as_str())?;
         }
         match self.folder.note_base(base) {
             Ok(()) => Ok(()),
@@ -274,14 +286,14 @@ impl<R: Files<File = File> + AllocGlobal + Clone + Drop, V, H: Herald> Service<'
     }
 }
 
-impl<R: Files<File = File> + AllocGlobal + Clock, V: Herald, H> Service<'_, R, V, H> {
+impl<R: Files<File = File> + AllocGlobal + Clock, V: Notifier, H> FolderService<'_, R, V, H> {
     /// Opens a journal that was found sound.
     fn open_one<O: Opener>(
         &self,
         opener: &O,
         sound: Sound,
         moment: u64,
-    ) -> Result<Arc<Journal<O::Branch>>, RollingFault>
+    ) -> Result<Arc<ServedJournal<O::OwnedSession>>, RollingFault>
         requires { IsRead None sound.opening }
     {
         let (file, opening) = sound.ready(self.rt, self.watcher)?;
@@ -294,40 +306,40 @@ impl<R: Files<File = File> + AllocGlobal + Clock, V: Herald, H> Service<'_, R, V
         opener: &O,
         sounds: Vec<Sound>,
         moment: u64,
-    ) -> Result<Vec<Watch<O::Branch>>, RollingFault>
+    ) -> Result<Vec<JournalMonitor<O::OwnedSession>>, RollingFault>
         requires { All (λ sound. IsRead None sound.opening) sounds.items }
     {
         let mut watches = Vec::new(self.alloc);
         for sound in sounds {
             let journal = self.open_one(opener, sound, moment)?;
-            watches.push(Watch::new(journal, steady(self.rt)))?;
+            watches.push(JournalMonitor::new(journal, steady(self.rt)))?;
         }
         Ok(watches)
     }
 }
 
-impl<'a, R: Files<File = File> + AllocGlobal + Clone + Drop + Wait + Clock, V: Herald, H> Service<
+impl<
     'a,
-    R,
-    V,
+    R: Files<File = File> + AllocGlobal + Clone + Drop + Wait + Clock,
+    V: Notifier,
     H,
-> {
+> FolderService<'a, R, V, H> {
     /// Opens the journals of a folder, and begins a new one if the newest accepts no new work. Journals before the
     /// first of these numbers accept none.
     fn open<O: Opener>(
         &self,
-        maker: &mut Maker<'a, R, O>,
+        journal_factory: &mut JournalFactory<'a, R, O>,
         sounds: Vec<Sound>,
         first: u64,
         moment: u64,
-    ) -> Result<Vec<Watch<O::Branch>>, RollingFault>
+    ) -> Result<Vec<JournalMonitor<O::OwnedSession>>, RollingFault>
         requires { All (λ sound. IsRead None sound.opening) sounds.items }
     {
-        let mut watches = self.open_all(&maker.opener, sounds, moment)?;
+        let mut watches = self.open_all(&journal_factory.opener, sounds, moment)?;
         if !retire(&watches, first) {
-            let mut ready = maker.make(moment)?;
-            maker.name(&mut ready)?;
-            watches.push(Watch::new(ready.into_journal(), steady(self.rt)))?;
+            let mut ready = journal_factory.make(moment)?;
+            journal_factory.name(&mut ready)?;
+            watches.push(JournalMonitor::new(ready.into_journal(), steady(self.rt)))?;
         }
         Ok(watches)
     }
@@ -345,42 +357,50 @@ impl<
         + Clock
         + Net<Stream = TcpStream, Listener = TcpListener>
         + Sync,
-    V: Herald + Sync,
-    H: Herald + Journalist + Sync,
-> Service<'a, R, V, H> {
+    V: Notifier + Sync,
+    H: Notifier + EventSink + Sync,
+> FolderService<'a, R, V, H> {
     /// Says that the service serves, and serves until it ends.
-    fn serve_roster<O: Opener<Branch = B> + Send + Drop, B: Clerkship + Send + Drop, W: Write>(
+    fn serve_journal_registry<
+        O: Opener<OwnedSession = B> + Send + Drop,
+        B: JournalSession + Send + Drop,
+        W: Write,
+    >(
         &self,
         storage: &'a Storage,
-        steward: Steward<'a, R, O, B>,
-        roster: &Roster<B>,
-        door: Doorway,
+        rotation_manager: RotationManager<'a, R, O, B>,
+        journal_registry: &JournalRegistry<B>,
+        acceptor: SocketAcceptor,
         moment: u64,
         writer: &mut W,
-    ) -> Result<FolderServed, RollingFault> {
-        let Doorway { line, ending } = door;
-        let arrivals = arrivals_of(self.rt, self.alloc, self.workers)?;
-        let Some(crier) = Crier::new(self.rt, self.alloc) else {
+    ) -> Result<FolderOutcome, RollingFault> {
+        let SocketAcceptor { line, ending } = acceptor;
+        let accept_queue = accept_queue_of(self.rt, self.alloc, self.workers)?;
+        let Some(wake_relay) = WakeRelay::new(self.rt, self.alloc) else {
             return Err(RollingFault::Here(ServeFault::Address));
         };
-        let shift = Shift::new(
+        let folder_state = FolderState::new(
             self.rt,
             self.alloc,
-            self.herald,
+            self.notifier,
             &self.settings,
-            self.terms,
+            self.access_policy,
             storage,
             &ending,
-            roster,
+            journal_registry,
             line,
-            arrivals,
-            crier,
+            accept_queue,
+            wake_relay,
             moment,
-            self.tower,
+            self.operators_context,
         );
-        let duties = duties_of(self.alloc, self.workers, self.tower.post.is_some())?;
-        let served = work(&shift, steward, &duties, writer);
-        drop(shift);
+        let roles = roles_of(
+            self.alloc,
+            self.workers,
+            self.operators_context.post.is_some(),
+        )?;
+        let served = work(&folder_state, rotation_manager, &roles, writer);
+        drop(folder_state);
         if let Err(fault) = served {
             drop(ending);
             return Err(RollingFault::Here(fault));
@@ -388,22 +408,22 @@ impl<
         let journals = storage.journals();
         // Another thread may have seen it first, and ended the service.
         if storage.fail_if_lost(self.rt) {
-            self.herald.tell("lra: the fence is another's now: nothing is written any more\n");
+            self.notifier.notify("lra: the fence is another's now: nothing is written any more\n");
         } else if journals.has_failed(self.rt) {
-            self.herald.note(&Event::SyncFailed);
+            self.notifier.note(&Event::SyncFailed);
         }
         let end = end_of(self.rt, journals, &ending);
         drop(ending);
         match end {
-            Ok(_) => Ok(FolderServed::Ended),
+            Ok(_) => Ok(FolderOutcome::Ended),
             Err(fault) => Err(RollingFault::Here(fault)),
         }
     }
 
     /// Serves journals that were found sound, in a storage.
     fn serve_on<
-        O: Opener<Branch = B> + Send + Drop,
-        B: Clerkship + Send + Drop,
+        O: Opener<OwnedSession = B> + Send + Drop,
+        B: JournalSession + Send + Drop,
         I: Read + Send + Drop + 'static,
         W: Write,
     >(
@@ -412,27 +432,34 @@ impl<
         opener: O,
         contents: &Contents,
         sounds: Vec<Sound>,
-        entry: Entry<I>,
+        entry: ServiceInput<I>,
         writer: &mut W,
-    ) -> Result<FolderServed, RollingFault>
+    ) -> Result<FolderOutcome, RollingFault>
         requires { All (λ sound. IsRead None sound.opening) sounds.items }
     {
         let Some(now) = milliseconds(self.rt) else {
             return Err(RollingFault::Here(ServeFault::Address));
         };
         let moment = now.max(latest(&sounds));
-        let mut maker = self.maker(storage, opener, contents, now)?;
-        let Entry { listener, input } = entry;
+        let mut journal_factory = self.journal_factory(storage, opener, contents, now)?;
+        let ServiceInput { listener, input } = entry;
         let listener = listener_at(self.rt, self.site.socket.as_str(), listener)?;
         self.folder.clear(contents)?;
         self.note_base()?;
-        let first = first_open(self.conduct.restored(self.folder, contents)?);
-        let watches = self.open(&mut maker, sounds, first, moment)?;
+        let first = first_open(self.folder_options.restored(self.folder, contents)?);
+        let watches = self.open(&mut journal_factory, sounds, first, moment)?;
         give_up_all(self.rt, &watches, self.given_up)?;
-        let roster = self.roster(&watches)?;
-        let door = make_doorway(self.rt, self.alloc, listener, input)?;
-        let steward = self.steward(maker, watches);
-        self.serve_roster(storage, steward, &roster, door, moment, writer)
+        let journal_registry = self.journal_registry(&watches)?;
+        let acceptor = make_socket_acceptor(self.rt, self.alloc, listener, input)?;
+        let rotation_manager = self.rotation_manager(journal_factory, watches);
+        self.serve_journal_registry(
+            storage,
+            rotation_manager,
+            &journal_registry,
+            acceptor,
+            moment,
+            writer,
+        )
     }
 }
 
@@ -442,12 +469,12 @@ fn notes_of<R: Files<File = File> + AllocGlobal + Clone + Drop>(
     folder: &Folder<'_, R>,
     is_watched: bool,
     given_up: &[GivenUp],
-) -> Result<Notes, RollingFault> {
+) -> Result<GivenUpNotes, RollingFault> {
     if !is_watched {
-        return Ok(Notes::new(None));
+        return Ok(GivenUpNotes::new(None));
     }
     match folder.note_given_up(given_up) {
-        Ok(file) => Ok(Notes::new(Some(file))),
+        Ok(file) => Ok(GivenUpNotes::new(Some(file))),
         Err(_) => Err(RollingFault::Here(ServeFault::File)),
     }
 }
@@ -470,62 +497,66 @@ pub fn serve_folder<
         + Sync
         + Send,
     I: Read + Send + Drop + 'static,
-    V: Herald + Sync,
-    H: Herald + Journalist + Sync,
+    V: Notifier + Sync,
+    H: Notifier + EventSink + Sync,
     W: Write,
 >(
     rt: &R,
     address: &str,
     base: Option<Base>,
-    terms: Terms<'_>,
+    access_policy: AccessPolicy<'_>,
     path: &str,
     workers: u32,
     settings: Settings,
-    conduct: Conduct<'_>,
-    operators: Option<&Watchpost>,
-    entry: Entry<I>,
+    folder_options: FolderOptions<'_>,
+    operators: Option<&OperatorsServer>,
+    entry: ServiceInput<I>,
     watcher: &V,
-    herald: &H,
+    notifier: &H,
     writer: &mut W,
-) -> Result<FolderServed, RollingFault> {
+) -> Result<FolderOutcome, RollingFault> {
     let alloc = rt.alloc();
     let site = site_at(alloc, address, base)?;
     let folder = Folder::open(rt, path)?;
     let contents = folder.contents()?;
     let journals = u32::try_from(contents.journals.len()).unwrap_or(u32::MAX);
     let taken = taken_by_folder(workers, journals);
-    let settings = fit_descriptors(rt, alloc, herald, taken, settings)?;
+    let settings = fit_descriptors(rt, alloc, notifier, taken, settings)?;
     let given_up = folder.given_up(&contents)?;
-    let tower = Tower {
+    let operators_context = OperatorsContext {
         post: operators,
         base: &site.base,
         limits: limits_of(&settings),
         tallies: Tallies::new(alloc, operators, settings.sync_seconds)?,
         notes: notes_of(&folder, operators.is_some(), given_up.as_slice())?,
     };
-    let Ok(storage) = Storage::new(alloc, tower.tallies.syncs(), conduct.fence) else {
+    let Ok(storage) = Storage::new(
+        alloc,
+        operators_context.tallies.syncs(),
+        folder_options.fence,
+    ) else {
         return Err(RollingFault::Here(ServeFault::Run(RunFault::Memory)));
     };
-    let service = Service {
+    let service = FolderService {
         rt,
         alloc,
         address,
         site: &site,
-        terms,
+        access_policy,
         folder: &folder,
         workers,
         settings,
         watcher,
-        herald,
-        tower: &tower,
-        conduct,
+        notifier,
+        operators_context: &operators_context,
+        folder_options,
         given_up: given_up.as_slice(),
     };
-    service.tell_others(&contents);
+    service.report_others(&contents);
     match audit_all(rt, &folder, &contents, watcher, writer)? {
-        Err(Unsound { status, path }) => Ok(FolderServed::Unsound { status, path }),
+        Err(Unsound { status, path }) => Ok(FolderOutcome::Unsound { status, path }),
         Ok(sounds) => {
-            let opener = Bench {
+            let opener = OpeningContext {
                 rt,
                 alloc,
                 storage: &storage,

@@ -2,15 +2,15 @@
 
 ghost use Rattle.std.specs.Thread.{IsSend, IsSync};
 
+use crate::folder_state::{FolderRole, FolderState};
 use crate::opening::Opener;
-use crate::shift::{Duty, Shift};
-use crate::steward::Steward;
+use crate::rotation_manager::RotationManager;
 use lra_admission::KeyFiles;
 use lra_audits::RunFault;
-use lra_branch::Clerkship;
-use lra_logs::{Event, Journalist};
-use lra_opening::{Herald, ServeFault};
+use lra_logs::{Event, EventSink};
+use lra_opening::{Notifier, ServeFault};
 use lra_service::say;
+use lra_sessions::JournalSession;
 use std::fs::File;
 use std::io::Write;
 use std::marker::{Send, Sync};
@@ -37,73 +37,73 @@ pub(crate) fn work<
         + Clock
         + Net<Stream = TcpStream, Listener = TcpListener>
         + Sync,
-    H: Herald + Journalist + Sync,
-    O: Opener<Branch = B> + Drop,
-    B: Clerkship + Send + Drop,
+    H: Notifier + EventSink + Sync,
+    O: Opener<OwnedSession = B> + Drop,
+    B: JournalSession + Send + Drop,
     W: Write,
 >(
-    shift: &Shift<'_, 'a, R, H, B>,
-    steward: Steward<'a, R, O, B>,
-    duties: &[Duty],
+    folder_state: &FolderState<'_, 'a, R, H, B>,
+    rotation_manager: RotationManager<'a, R, O, B>,
+    roles: &[FolderRole],
     writer: &mut W,
 ) -> Result<(), ServeFault> {
-    let mut steward = steward;
-    let Ok(journals) = shift.roster.all(shift.rt) else {
-        drop(steward);
+    let mut rotation_manager = rotation_manager;
+    let Ok(journals) = folder_state.journal_registry.all(folder_state.rt) else {
+        drop(rotation_manager);
         return Err(ServeFault::Run(RunFault::Memory));
     };
-    steward.idle = journals;
+    rotation_manager.idle = journals;
     let served = thread::scope(
         thread::scope_env(),
-        shift.rt,
+        folder_state.rt,
         |scope| -> Result<(), ServeFault>
             requires { IsSync R.row × IsSync H.row × IsSend B.row }
         {
-            for duty in duties {
-                let duty = *duty;
-                let started = Builder::new().spawn_scoped(scope, move || shift.stand(duty));
+            for role in roles {
+                let role = *role;
+                let started = Builder::new().spawn_scoped(scope, move || folder_state.stand(role));
                 if started.is_err() {
-                    return Err(shift.give_up());
+                    return Err(folder_state.give_up());
                 }
             }
-            for _journal in 0..steward.idle.len() {
-                let Some(journal) = steward.idle.pop() else {
+            for _journal in 0..rotation_manager.idle.len() {
+                let Some(journal) = rotation_manager.idle.pop() else {
                     break;
                 };
                 let started = Builder::new().spawn_scoped(scope, move || {
-                    shift.stand_and_carry(&journal);
+                    folder_state.start_callbacks(&journal);
                     drop(journal);
                 });
                 if started.is_err() {
-                    return Err(shift.give_up());
+                    return Err(folder_state.give_up());
                 }
             }
-            if let Err(fault) = say(shift.alloc, steward.address, writer) {
-                let _ = shift.give_up();
+            if let Err(fault) = say(folder_state.alloc, rotation_manager.address, writer) {
+                let _ = folder_state.give_up();
                 return Err(fault);
             }
-            shift.herald.note(&Event::Serving {
-                journals: steward.watches.len() as u64,
-                workers: shift.workers(),
+            folder_state.notifier.note(&Event::Serving {
+                journals: rotation_manager.watches.len() as u64,
+                workers: folder_state.workers(),
             });
-            steward.begin(shift);
-            shift.begin();
-            for _ in shift.rt.forever() {
-                let Some(journal) = steward.next(shift) else {
+            rotation_manager.begin(folder_state);
+            folder_state.begin();
+            for _ in folder_state.rt.forever() {
+                let Some(journal) = rotation_manager.next(folder_state) else {
                     break;
                 };
                 let started = Builder::new().spawn_scoped(scope, move || {
-                    shift.carry(&journal);
+                    folder_state.carry(&journal);
                     drop(journal);
                 });
-                shift.note_thread(started.is_ok());
+                folder_state.note_thread(started.is_ok());
                 if started.is_err() {
-                    steward.give_up(shift);
+                    rotation_manager.give_up(folder_state);
                 }
             }
             Ok(())
         },
     );
-    drop(steward);
+    drop(rotation_manager);
     served
 }

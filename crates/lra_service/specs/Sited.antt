@@ -9,6 +9,7 @@ base_served own address = unwrap_or own (base_text address)
 
 -- the address that is served for a given one: the given one, or, if its port is 0, the same host with a port that the
 -- system chose (this project's choice)
-abbrev pub IsSpotOf : List ℕ → List ℕ → Type 0
-IsSpotOf address spot = (spot ≡ address) ⊎ ((host : List ℕ) × (port : ℕ) × (address ≡ host ++ codes ":0")
-    × (spot ≡ host ++ codes ":" ++ decimal port))
+abbrev pub IsBoundAddressOf : List ℕ → List ℕ → Type 0
+IsBoundAddressOf address bound_address = (bound_address ≡ address)
+    ⊎ ((host : List ℕ) × (port : ℕ) × (address ≡ host ++ codes ":0")
+    × (bound_address ≡ host ++ codes ":" ++ decimal port))

@@ -15,7 +15,7 @@ use std::net::{Net, TcpListener};
 
 /// Site of a service.
 #[derive(Drop)]
-pub struct Site {
+pub struct ServiceSite {
     /// Base of the identifiers that it gives.
     pub base: Base,
     /// Host and port of the socket that it listens at.
@@ -37,7 +37,7 @@ fn base_at(alloc: Global, to: &str) -> Result<Address, ServeFault>
 }
 
 /// Returns the site whose identifiers begin with `http://`, its address and `/`, or why there is none.
-fn own_site(alloc: Global, to: &str) -> Result<Site, ServeFault>
+fn own_site(alloc: Global, to: &str) -> Result<ServiceSite, ServeFault>
     ensures base { IfOk result (λ site. site.base ≡ base_text to.now) }
     ensures own { IfOk result (λ _. is_base (base_text to.now) ≡ true) }
     ensures fault { IfErr result IsOfAddress }
@@ -45,7 +45,7 @@ fn own_site(alloc: Global, to: &str) -> Result<Site, ServeFault>
 {
     let address = base_at(alloc, to)?;
     match socket_text(alloc, &address) {
-        Ok(socket) => Ok(Site {
+        Ok(socket) => Ok(ServiceSite {
             base: Base::of(address),
             socket,
         }),
@@ -58,7 +58,7 @@ fn own_site(alloc: Global, to: &str) -> Result<Site, ServeFault>
 
 /// Returns the site at an address. Its identifiers begin with a base of their own if there is one, and otherwise with
 /// `http://`, the address and `/`.
-pub fn site_at(alloc: Global, to: &str, base: Option<Base>) -> Result<Site, ServeFault>
+pub fn site_at(alloc: Global, to: &str, base: Option<Base>) -> Result<ServiceSite, ServeFault>
     ensures base { IfOk result (λ site. site.base ≡ base_served base to.now) }
     ensures own { base ≡ None → IfOk result (λ _. is_base (base_text to.now) ≡ true) }
     ensures fault { IfErr result IsOfAddress }
@@ -68,7 +68,7 @@ pub fn site_at(alloc: Global, to: &str, base: Option<Base>) -> Result<Site, Serv
         return own_site(alloc, to);
     };
     match String::from_str(alloc, to) {
-        Ok(socket) => Ok(Site { base, socket }),
+        Ok(socket) => Ok(ServiceSite { base, socket }),
         Err(_) => {
             drop(base);
             Err(ServeFault::Run(RunFault::Memory))

@@ -5,7 +5,7 @@ ghost use Rattle.lra_ids.specs.Addresses.{is_base};
 ghost use Rattle.lra_ids.specs.Bases.{base_text};
 ghost use Rattle.lra_opening.specs.Ends.{IsRefused, IsOfAddress};
 
-use crate::base::{Site, site_at};
+use crate::base::{ServiceSite, site_at};
 use lra_audits::put;
 use lra_core::Opening;
 use lra_ids::Base;
@@ -128,7 +128,7 @@ pub fn check_place<P: Place, W: Write>(
     let kept = can_be_kept(place, &found);
     drop(found);
     let told = match kept {
-        Ok(()) => tell(
+        Ok(()) => write_report(
             alloc, address, &site, olders, file, &opening, workers, settings, writer,
         ),
         Err(fault) => Err(fault),
@@ -142,10 +142,10 @@ pub fn check_place<P: Place, W: Write>(
 }
 
 /// Writes what would be served, for a journal that could be served.
-fn tell<W: Write>(
+fn write_report<W: Write>(
     alloc: Global,
     address: &str,
-    site: &Site,
+    site: &ServiceSite,
     olders: &[Base],
     file: &str,
     opening: &Opening,

@@ -3,8 +3,8 @@
 ghost use Rattle.std.specs.Prelude.{IfErr};
 ghost use Rattle.lra_opening.specs.Ends.{IsOfAddress};
 
-use lra_logs::{Event, Journalist};
-use lra_opening::{Herald, ServeFault};
+use lra_logs::{Event, EventSink};
+use lra_opening::{Notifier, ServeFault};
 use lra_settings::{Settings, descriptors_needed, share_descriptors};
 use std::alloc::Global;
 use std::fs::File;
@@ -33,9 +33,9 @@ fn descriptor_limit<R: Files<File = File>>(rt: &R) -> Option<u64> {
 }
 
 /// Reports that connections and callbacks are fewer than asked for.
-fn tell_lowered<H: Herald + Journalist>(
+fn report_lowered<H: Notifier + EventSink>(
     alloc: Global,
-    herald: &H,
+    notifier: &H,
     limit: u64,
     asked: &Settings,
     had: &Settings,
@@ -45,31 +45,31 @@ fn tell_lowered<H: Herald + Journalist>(
         "lra: at most {connections} connections and {callbacks} callbacks at once: the limit of open files is {limit}\n"
     );
     if let Ok(line) = line {
-        herald.tell(line.as_str());
+        notifier.notify(line.as_str());
     }
-    herald.note(&Event::DescriptorsLowered {
+    notifier.note(&Event::DescriptorsLowered {
         asked: asked.connections.saturating_add(asked.callbacks),
         had: connections.saturating_add(callbacks),
     });
 }
 
 /// Reports that there are too few descriptors to serve.
-fn tell_too_few<H: Herald>(alloc: Global, herald: &H, limit: u64, taken: u64) {
+fn report_too_few<H: Notifier>(alloc: Global, notifier: &H, limit: u64, taken: u64) {
     let least = descriptors_needed(taken);
     let line = format!(in alloc;
         "lra: the limit of open files is {limit}, and at least {least} are needed\n"
     );
     if let Ok(line) = line {
-        herald.tell(line.as_str());
+        notifier.notify(line.as_str());
     }
 }
 
 /// Returns the settings with no more connections and callbacks than there are descriptors for, beside the `taken` ones.
 /// If these are fewer than asked for, or too few to serve, reports that.
-pub fn fit_descriptors<R: Files<File = File>, H: Herald + Journalist>(
+pub fn fit_descriptors<R: Files<File = File>, H: Notifier + EventSink>(
     rt: &R,
     alloc: Global,
-    herald: &H,
+    notifier: &H,
     taken: u64,
     settings: Settings,
 ) -> Result<Settings, ServeFault>
@@ -79,11 +79,11 @@ pub fn fit_descriptors<R: Files<File = File>, H: Herald + Journalist>(
         return Ok(settings);
     };
     let Some(fitting) = share_descriptors(limit, taken, &settings) else {
-        tell_too_few(alloc, herald, limit, taken);
+        report_too_few(alloc, notifier, limit, taken);
         return Err(ServeFault::Address);
     };
     if fitting != settings {
-        tell_lowered(alloc, herald, limit, &settings, &fitting);
+        report_lowered(alloc, notifier, limit, &settings, &fitting);
     }
     Ok(fitting)
 }

@@ -5,11 +5,11 @@ ghost use Rattle.std.specs.Io.KnownBytes.{Appends};
 ghost use Rattle.lra_opening.specs.Ends.{serving_line, IsSaid};
 ghost use Rattle.lra_opening.specs.Faults.{IsOfNoScript};
 
-use crate::running::Served;
+use crate::running::ServiceOutcome;
 use lra_audits::RunFault;
 use lra_durable::{Disk, Journals, SyncGroup};
 use lra_opening::ServeFault;
-use lra_watchpost::Ends;
+use lra_operators_server::Ends;
 use mio::Waker;
 use std::alloc::Global;
 use std::io::{ErrorKind, Read, Write};
@@ -24,28 +24,28 @@ const PIECE: usize = 256;
 /// State of a service's end: whether it is to end gently, whether no connection worker answers any more, and the waker
 /// of the thread that waits for connections.
 #[derive(Drop)]
-pub struct Ending {
+pub struct ServiceEnding {
     /// Flag, set once it is to end gently.
     is_asked: AtomicBool,
     /// Flag, set once no connection worker answers any more.
     is_over: AtomicBool,
-    bell: Waker,
+    waker: Waker,
 }
 
-impl Ending {
+impl ServiceEnding {
     /// Returns the state of a service that is to go on.
-    pub fn new(bell: Waker) -> Ending {
-        Ending {
+    pub fn new(waker: Waker) -> ServiceEnding {
+        ServiceEnding {
             is_asked: AtomicBool::new(false),
             is_over: AtomicBool::new(false),
-            bell,
+            waker,
         }
     }
 
     /// Asks the service to end gently, and wakes the thread that waits for connections.
     pub fn ask(&self) {
         self.is_asked.store(true, Ordering::SeqCst);
-        let _ = self.bell.wake();
+        let _ = self.waker.wake();
     }
 
     /// Returns whether the service is to end gently.
@@ -56,7 +56,7 @@ impl Ending {
     /// Notes that no connection worker answers any more, and wakes the thread that waits for connections.
     pub fn finish(&self) {
         self.is_over.store(true, Ordering::SeqCst);
-        let _ = self.bell.wake();
+        let _ = self.waker.wake();
     }
 
     /// Returns whether no connection worker answers any more.
@@ -65,9 +65,9 @@ impl Ending {
     }
 }
 
-impl Ends for Ending {
+impl Ends for ServiceEnding {
     fn is_over(&self) -> bool {
-        Ending::is_over(self)
+        ServiceEnding::is_over(self)
     }
 }
 
@@ -88,7 +88,7 @@ fn read_out<I: Read>(input: &mut I) {
 /// thread. Fails if the thread can't be started: then nothing is served.
 pub fn watch<R: Threads, I: Read + Send + Drop + 'static>(
     rt: &R,
-    ending: &Arc<Ending>,
+    ending: &Arc<ServiceEnding>,
     input: I,
 ) -> Result<(), ServeFault>
     ensures { IfErr result IsOfNoScript }
@@ -130,9 +130,9 @@ pub fn say<W: Write>(alloc: Global, address: &str, writer: &mut W) -> Result<(),
 pub fn end_of<R: Wait, D: Disk>(
     rt: &R,
     journals: &Journals<D>,
-    ending: &Arc<Ending>,
-) -> Result<Served, ServeFault>
-    ensures ended { IfOk result (λ served. served ≡ Served.Ended) }
+    ending: &Arc<ServiceEnding>,
+) -> Result<ServiceOutcome, ServeFault>
+    ensures ended { IfOk result (λ served. served ≡ ServiceOutcome.Ended) }
     ensures fault { IfErr result (λ fault. (fault ≡ ServeFault.File) ⊎ (fault ≡ ServeFault.Address)) }
 {
     if journals.has_failed(rt) {
@@ -142,7 +142,7 @@ pub fn end_of<R: Wait, D: Disk>(
         return Err(ServeFault::Address);
     }
     match journals.keep_all(rt) {
-        Ok(true) => Ok(Served::Ended),
+        Ok(true) => Ok(ServiceOutcome::Ended),
         Ok(false) | Err(_) => Err(ServeFault::File),
     }
 }

@@ -1,12 +1,12 @@
 //! Gate of a callback worker, which decides what the worker may do.
 
-use crate::ending::Ending;
+use crate::ending::ServiceEnding;
 use crate::stamina::{is_longest, pause_after};
 use lra_clocks::{seconds_on, time_until};
 use lra_durable::SyncGroup;
 use lra_ids::Instance;
-use lra_logs::{Event, Journalist};
-use lra_watchpost::Tallies;
+use lra_logs::{Event, EventSink};
+use lra_operators_server::Tallies;
 use lra_workers::{Gate, Go};
 use std::sync::atomic::{AtomicU64, Ordering};
 use std::sync::{Arc, Wait};
@@ -21,15 +21,15 @@ const PARTING: u64 = 10;
 /// unless a sync has failed. If memory is refused, the worker pauses, for longer each time in a row. Once the pause is
 /// the longest, the journal's callbacks are noted to stand still, until a turn goes well.
 #[derive(Drop)]
-pub struct CarrierGate<'a, R, G: SyncGroup, J> {
+pub struct CallbackWorkerGate<'a, R, G: SyncGroup, J> {
     rt: &'a R,
-    ending: &'a Arc<Ending>,
+    ending: &'a Arc<ServiceEnding>,
     /// Group of journals that are synced with its own.
     group: &'a G,
     /// Number of errands under way.
     under_way: &'a AtomicU64,
     tallies: &'a Tallies,
-    journalist: &'a J,
+    event_sink: &'a J,
     /// Journal whose callbacks the worker makes.
     journal: Instance,
     /// Moment until which turns are made once the service is to end.
@@ -41,25 +41,25 @@ pub struct CarrierGate<'a, R, G: SyncGroup, J> {
     stands: bool,
 }
 
-impl<'a, R, G: SyncGroup, J> CarrierGate<'a, R, G, J> {
+impl<'a, R, G: SyncGroup, J> CallbackWorkerGate<'a, R, G, J> {
     /// Makes the gate of a callback worker for a journal. The worker stores the number of its errands under way in
     /// `under_way`.
     pub fn new(
         rt: &'a R,
-        ending: &'a Arc<Ending>,
+        ending: &'a Arc<ServiceEnding>,
         group: &'a G,
         under_way: &'a AtomicU64,
         tallies: &'a Tallies,
-        journalist: &'a J,
+        event_sink: &'a J,
         journal: Instance,
-    ) -> CarrierGate<'a, R, G, J> {
-        CarrierGate {
+    ) -> CallbackWorkerGate<'a, R, G, J> {
+        CallbackWorkerGate {
             rt,
             ending,
             group,
             under_way,
             tallies,
-            journalist,
+            event_sink,
             journal,
             until: None,
             refusals: 0,
@@ -83,20 +83,20 @@ impl<'a, R, G: SyncGroup, J> CarrierGate<'a, R, G, J> {
     }
 }
 
-impl<R, G: SyncGroup, J: Journalist> CarrierGate<'_, R, G, J> {
+impl<R, G: SyncGroup, J: EventSink> CallbackWorkerGate<'_, R, G, J> {
     /// Notes that the callbacks stand still, unless that is noted already.
     fn stand(&mut self) {
         if !self.stands {
             self.stands = true;
             self.tallies.stand(self.journal);
-            self.journalist.note(&Event::CallbacksStand {
+            self.event_sink.note(&Event::CallbacksStand {
                 journal: self.journal,
             });
         }
     }
 }
 
-impl<R: Wait + Clock, G: SyncGroup, J> CarrierGate<'_, R, G, J> {
+impl<R: Wait + Clock, G: SyncGroup, J> CallbackWorkerGate<'_, R, G, J> {
     /// Returns whether the errands under way have some time left. They have none if the clock can't be read.
     fn has_time(&mut self) -> bool {
         if self.until.is_none() {
@@ -109,7 +109,7 @@ impl<R: Wait + Clock, G: SyncGroup, J> CarrierGate<'_, R, G, J> {
     }
 }
 
-impl<R: Wait + Clock, G: SyncGroup, J: Journalist> Gate for CarrierGate<'_, R, G, J> {
+impl<R: Wait + Clock, G: SyncGroup, J: EventSink> Gate for CallbackWorkerGate<'_, R, G, J> {
     fn more(&mut self) -> bool {
         self.turn();
         if !self.ending.is_asked() {

@@ -2,43 +2,47 @@
 //! answer requests and make callbacks.
 #![tactic(auto)]
 
+mod access_policy;
 mod base;
+mod bound_address;
 mod checking;
 mod descriptors;
-mod doorway;
+mod dispatcher;
 mod ending;
-mod entrance;
 mod gate;
-mod herald;
 mod latch;
-mod lookout;
 mod measure;
+mod notifier;
+mod operators_view;
 mod polls;
 mod post;
 mod running;
+mod service_state;
 mod shares;
-mod shift;
-mod spot;
+mod socket_acceptor;
 mod stamina;
 mod starting;
-mod terms;
 
-pub use base::{Site, bind, site_at};
+pub use access_policy::{
+    AccessPolicy, HandlerStack, RefusalLogger, dismiss, keys_trouble, receive,
+};
+pub use base::{ServiceSite, bind, site_at};
+pub use bound_address::{BoundAddress, ServiceInput, bound_address_at, listener_at};
 pub use checking::{check_place, put_journal, put_number, put_olders, put_settings, put_text};
 pub use descriptors::fit_descriptors;
-pub use doorway::{Doorway, make_doorway};
-pub use ending::{Ending, end_of, say, watch};
-pub use entrance::{Entrance, Line};
-pub use gate::CarrierGate;
-pub use herald::{Book, Quiet, Turnstile, lose_callback_worker, lose_worker};
+pub use dispatcher::{Dispatcher, PolledListener};
+pub use ending::{ServiceEnding, end_of, say, watch};
+pub use gate::CallbackWorkerGate;
 pub use latch::Latch;
 pub use lra_clocks::SystemClock;
 pub use lra_opening::{
-    Aloud, Found, Herald, Place, ServeFault, Silence, fault_line, find_journal, open_office,
-    ready_file,
+    Found, Notifier, Place, ServeFault, SilentNotifier, StandardErrorNotifier, fault_line,
+    find_journal, open_office, ready_file,
 };
-pub use polls::Stall;
-pub use running::{Served, serve, serve_from, serve_with};
-pub use shares::{Calling, limits_of, times_of};
-pub use spot::{Entry, Spot, listener_at, spot_at};
-pub use terms::{Doorman, Received, Terms, dismiss, keys_trouble, receive};
+pub use notifier::{
+    LoggingNotifier, NullNotifier, OperatorsRefusalLogger, lose_callback_worker, lose_worker,
+};
+pub use polls::WorkerSlot;
+pub use running::{ServiceOutcome, serve, serve_from, serve_with};
+pub use shares::{CallbackSettings, limits_of, times_of};
+pub use socket_acceptor::{SocketAcceptor, make_socket_acceptor};

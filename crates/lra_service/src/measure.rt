@@ -4,14 +4,14 @@ use lra_audits::LONGEST;
 use lra_commands::Limits;
 use lra_core::Opening;
 use lra_opening::is_new;
+use lra_operators_server::{ProcessStatistics, Tallies};
 use lra_overview::Facts;
 use lra_storage::JournalFile;
-use lra_watchpost::{Tallies, Vitals};
 use std::sync::Arc;
 
 /// State of a journal when it was opened, and its limits.
 #[derive(Clone, Copy)]
-pub(crate) struct Begun {
+pub(crate) struct JournalAtStart {
     entries: u64,
     /// Flag, set if its first line is yet to be written.
     is_new: bool,
@@ -19,8 +19,8 @@ pub(crate) struct Begun {
 }
 
 /// Returns the state of an opened journal with these limits.
-pub(crate) fn begun_from(opening: &Opening, limits: Limits) -> Begun {
-    Begun {
+pub(crate) fn begun_from(opening: &Opening, limits: Limits) -> JournalAtStart {
+    JournalAtStart {
         entries: opening.count_entries(),
         is_new: is_new(opening),
         limits,
@@ -29,9 +29,9 @@ pub(crate) fn begun_from(opening: &Opening, limits: Limits) -> Begun {
 
 /// Tallies of a service, and the size of its journal.
 #[derive(Drop)]
-pub(crate) struct Measure {
+pub(crate) struct ServiceStatistics {
     pub(crate) file: Arc<JournalFile>,
-    pub(crate) begun: Begun,
+    pub(crate) begun: JournalAtStart,
     pub(crate) tallies: Tallies,
 }
 
@@ -46,7 +46,7 @@ pub(crate) struct Now {
     pub(crate) callbacks: u64,
 }
 
-impl Measure {
+impl ServiceStatistics {
     /// Returns the number of entries that the journal has.
     fn count(&self) -> u64 {
         let first = u64::from(self.begun.is_new);
@@ -55,7 +55,7 @@ impl Measure {
     }
 
     /// Returns all figures of the service.
-    pub(crate) fn facts(&self, now: Now, vitals: Vitals) -> Facts {
+    pub(crate) fn facts(&self, now: Now, process_statistics: ProcessStatistics) -> Facts {
         let limits = self.begun.limits;
         Facts {
             moment: now.moment,
@@ -71,9 +71,9 @@ impl Measure {
             most_members: limits.members,
             connections: now.connections,
             callbacks: now.callbacks,
-            virtual_bytes: vitals.virtual_bytes,
-            resident_bytes: vitals.resident_bytes,
-            processor_ticks: vitals.ticks,
+            virtual_bytes: process_statistics.virtual_bytes,
+            resident_bytes: process_statistics.resident_bytes,
+            processor_ticks: process_statistics.ticks,
             lags: false,
             sync_age: self.tallies.sync_age(),
             sync_limit: self.tallies.sync_limit(),

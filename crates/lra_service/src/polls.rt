@@ -4,9 +4,9 @@ ghost use Rattle.std.specs.Prelude.{IfErr};
 ghost use Rattle.lra_opening.specs.Faults.{IsOfNoScript};
 
 use lra_audits::RunFault;
-use lra_callbacks::bell;
+use lra_callbacks::waker;
+use lra_event_loop::AcceptQueue;
 use lra_opening::ServeFault;
-use lra_rounds::Arrivals;
 use mio::{Poll, Waker};
 use std::alloc::Global;
 use std::net::Net;
@@ -15,7 +15,7 @@ use std::sync::{Arc, Mutex};
 
 /// Slot of a callback worker.
 #[derive(Drop)]
-pub struct Stall {
+pub struct WorkerSlot {
     /// Poll with which the worker waits, until the worker takes it.
     pub poll: Mutex<Option<Poll>>,
     /// Number of errands that the worker has under way.
@@ -24,17 +24,17 @@ pub struct Stall {
     pub least_pause: AtomicU64,
 }
 
-impl Stall {
+impl WorkerSlot {
     /// Returns a slot in which nothing is under way and no member is in back-off, and its waker. Returns `None` if they
     /// can't be had.
-    pub fn new<R: Net>(rt: &R) -> Option<(Stall, Waker)> {
-        let (poll, bell) = bell(rt).ok()?;
-        let stall = Stall {
+    pub fn new<R: Net>(rt: &R) -> Option<(WorkerSlot, Waker)> {
+        let (poll, waker) = waker(rt).ok()?;
+        let worker_slot = WorkerSlot {
             poll: Mutex::new(Some(poll)),
             under_way: AtomicU64::new(0),
             least_pause: AtomicU64::new(0),
         };
-        Some((stall, bell))
+        Some((worker_slot, waker))
     }
 }
 
@@ -43,38 +43,40 @@ impl Stall {
 #[derive(Drop)]
 pub(crate) struct Polls {
     /// Accept queues of the connection workers.
-    pub(crate) arrivals: Vec<Arrivals>,
+    pub(crate) accept_queue: Vec<AcceptQueue>,
     /// Slots of the callback workers.
-    pub(crate) stalls: Vec<Stall>,
+    pub(crate) worker_slots: Vec<WorkerSlot>,
     /// Wakers of the callback workers.
-    pub(crate) bells: Arc<Vec<Waker>>,
+    pub(crate) wakers: Arc<Vec<Waker>>,
 }
 
 /// Polls that are gathered, one worker after another.
 #[derive(Drop)]
 struct Gathered {
-    arrivals: Vec<Arrivals>,
-    stalls: Vec<Stall>,
-    bells: Vec<Waker>,
+    accept_queue: Vec<AcceptQueue>,
+    worker_slots: Vec<WorkerSlot>,
+    wakers: Vec<Waker>,
 }
 
 impl Gathered {
     /// Returns an empty collection of polls.
     fn new(alloc: Global) -> Gathered {
         Gathered {
-            arrivals: Vec::new(alloc),
-            stalls: Vec::new(alloc),
-            bells: Vec::new(alloc),
+            accept_queue: Vec::new(alloc),
+            worker_slots: Vec::new(alloc),
+            wakers: Vec::new(alloc),
         }
     }
 
     /// Adds the polls of one more connection worker, and of one more callback worker. Returns `None` if they can't be
     /// had.
     fn add<R: Net>(&mut self, rt: &R, alloc: Global) -> Option<()> {
-        self.arrivals.push(Arrivals::new(rt, alloc).ok()?).ok()?;
-        let (stall, bell) = Stall::new(rt)?;
-        self.stalls.push(stall).ok()?;
-        self.bells.push(bell).ok()
+        self.accept_queue
+            .push(AcceptQueue::new(rt, alloc).ok()?)
+            .ok()?;
+        let (worker_slot, waker) = WorkerSlot::new(rt)?;
+        self.worker_slots.push(worker_slot).ok()?;
+        self.wakers.push(waker).ok()
     }
 
     /// Returns all polls, or a fault if memory is refused.
@@ -82,20 +84,20 @@ impl Gathered {
         ensures { IfErr result IsOfNoScript }
     {
         let Gathered {
-            arrivals,
-            stalls,
-            bells,
+            accept_queue,
+            worker_slots,
+            wakers,
         } = self;
-        match Arc::new(alloc, bells) {
-            Ok(bells) => Ok(Polls {
-                arrivals,
-                stalls,
-                bells,
+        match Arc::new(alloc, wakers) {
+            Ok(wakers) => Ok(Polls {
+                accept_queue,
+                worker_slots,
+                wakers,
             }),
-            Err(bells) => {
-                drop(bells);
-                drop(arrivals);
-                drop(stalls);
+            Err(wakers) => {
+                drop(wakers);
+                drop(accept_queue);
+                drop(worker_slots);
                 Err(ServeFault::Run(RunFault::Memory))
             }
         }

@@ -11,7 +11,7 @@ use std::sync::Wait;
 
 /// Role of a clerk of a service.
 #[derive(Clone, Copy, Debug, PartialEq, Eq)]
-pub(crate) enum Duty {
+pub(crate) enum Role {
     /// Answers the connections of the accept queue at that index.
     Answer(u32),
     /// Lets limits fire and makes the callbacks of errands, in that slot.
@@ -21,13 +21,13 @@ pub(crate) enum Duty {
 }
 
 /// Gives a clerk its role, and enrols another beside it. Returns the other.
-fn engage<V: Serving, R: Wait>(
+fn register_worker<V: Serving, R: Wait>(
     rt: &R,
     office: &OfficeOf<V>,
     clerk: Clerk<V>,
-    duty: Duty,
+    role: Role,
     moment: u64,
-    jobs: &mut Vec<(Duty, Clerk<V>)>,
+    jobs: &mut Vec<(Role, Clerk<V>)>,
 ) -> Result<Clerk<V>, ServeFault>
     requires clerk { IsAt V.setting V.covers office.now clerk }
     requires hired { All (λ job. IsAt V.setting V.covers office.now job.1) jobs.old.items }
@@ -36,7 +36,7 @@ fn engage<V: Serving, R: Wait>(
     ensures fault { IfErr result IsOfNoScript }
 {
     let (clerk, pass) = office.split(clerk);
-    jobs.push((duty, clerk))?;
+    jobs.push((role, clerk))?;
     match office.clerk(rt, pass, moment) {
         Ok(other) => Ok(other),
         Err((pass, refusal)) => {
@@ -53,7 +53,7 @@ fn add_all<V: Serving, R: Wait>(
     first: Clerk<V>,
     moment: u64,
     workers: u32,
-    jobs: &mut Vec<(Duty, Clerk<V>)>,
+    jobs: &mut Vec<(Role, Clerk<V>)>,
 ) -> Result<(), ServeFault>
     requires first { IsAt V.setting V.covers office.now first }
     requires hired { All (λ job. IsAt V.setting V.covers office.now job.1) jobs.old.items }
@@ -62,11 +62,11 @@ fn add_all<V: Serving, R: Wait>(
 {
     let mut next = first;
     for place in 1..workers {
-        let other = engage(rt, office, next, Duty::Carry(place), moment, jobs)?;
-        next = engage(rt, office, other, Duty::Answer(place), moment, jobs)?;
+        let other = register_worker(rt, office, next, Role::Carry(place), moment, jobs)?;
+        next = register_worker(rt, office, other, Role::Answer(place), moment, jobs)?;
     }
-    let last = engage(rt, office, next, Duty::Carry(0), moment, jobs)?;
-    jobs.push((Duty::Answer(0), last))?;
+    let last = register_worker(rt, office, next, Role::Carry(0), moment, jobs)?;
+    jobs.push((Role::Answer(0), last))?;
     Ok(())
 }
 
@@ -78,7 +78,7 @@ fn add_each<V: Serving, R: Wait>(
     moment: u64,
     workers: u32,
     is_watched: bool,
-    jobs: &mut Vec<(Duty, Clerk<V>)>,
+    jobs: &mut Vec<(Role, Clerk<V>)>,
 ) -> Result<(), ServeFault>
     requires first { IsAt V.setting V.covers office.now first }
     requires hired { All (λ job. IsAt V.setting V.covers office.now job.1) jobs.old.items }
@@ -86,7 +86,7 @@ fn add_each<V: Serving, R: Wait>(
     ensures fault { IfErr result IsOfNoScript }
 {
     if is_watched {
-        let next = engage(rt, office, first, Duty::Watch, moment, jobs)?;
+        let next = register_worker(rt, office, first, Role::Watch, moment, jobs)?;
         return add_all(rt, office, next, moment, workers, jobs);
     }
     add_all(rt, office, first, moment, workers, jobs)
@@ -94,7 +94,7 @@ fn add_each<V: Serving, R: Wait>(
 
 /// Returns the clerks of a service with their roles, of which one is there already: one for each of so many connection
 /// workers and as many callback workers, and one for the operators' thread if there is one.
-pub(crate) fn hire_all<V: Serving, R: Wait>(
+pub(crate) fn spawn_all<V: Serving, R: Wait>(
     rt: &R,
     alloc: Global,
     office: &OfficeOf<V>,
@@ -102,7 +102,7 @@ pub(crate) fn hire_all<V: Serving, R: Wait>(
     moment: u64,
     workers: u32,
     is_watched: bool,
-) -> Result<Vec<(Duty, Clerk<V>)>, ServeFault>
+) -> Result<Vec<(Role, Clerk<V>)>, ServeFault>
     requires { IsAt V.setting V.covers office.now first }
     ensures hired { IfOk result (λ jobs. All (λ job. IsAt V.setting V.covers office.now job.1) jobs.items) }
     ensures fault { IfErr result IsOfNoScript }

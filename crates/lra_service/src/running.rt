@@ -12,33 +12,33 @@ ghost use Rattle.lra_service.specs.Outcomes.{HasSaid};
 ghost use Rattle.lra_service.specs.Limited.{limits_of};
 ghost use Rattle.lra_service.specs.inner.Opened.{IsOpenAt};
 
-use crate::base::{Site, site_at};
-use crate::doorway::{Doorway, make_doorway};
+use crate::access_policy::AccessPolicy;
+use crate::base::{ServiceSite, site_at};
+use crate::bound_address::{ServiceInput, listener_at};
 use crate::ending::end_of;
-use crate::herald::Quiet;
-use crate::measure::{Begun, Measure, begun_from};
+use crate::measure::{JournalAtStart, ServiceStatistics, begun_from};
+use crate::notifier::NullNotifier;
 use crate::polls::{Polls, polls_of};
-use crate::post::hire_all;
+use crate::post::spawn_all;
+use crate::service_state::ServiceState;
 use crate::shares::limits_of;
-use crate::shift::Shift;
-use crate::spot::{Entry, listener_at};
+use crate::socket_acceptor::{SocketAcceptor, make_socket_acceptor};
 use crate::starting::work;
-use crate::terms::Terms;
 use lra_admission::KeyFiles;
 use lra_audits::{LONGEST, RunFault};
 use lra_clocks::milliseconds;
 use lra_core::Opening;
-use lra_durable::{Keeper, Progress, SyncGroup};
+use lra_durable::{JournalWriter, Progress, SyncGroup};
 use lra_ids::Base;
-use lra_logs::{Event, Journalist};
+use lra_logs::{Event, EventSink};
 use lra_office::{Clerk, Desk, Office};
 use lra_opening::{
-    Found, Herald, NamedFile, Place, ServeFault, find_journal, open_office, ready_file, refuse,
+    Found, NamedFile, Notifier, Place, ServeFault, find_journal, open_office, ready_file, refuse,
 };
+use lra_operators_server::{OperatorsServer, Tallies};
 use lra_rules::Rules;
 use lra_settings::Settings;
 use lra_storage::{FileDisk, OpenFile, Storage};
-use lra_watchpost::{Tallies, Watchpost};
 use std::alloc::Global;
 use std::fs::File;
 use std::io::{Read, Write};
@@ -51,7 +51,7 @@ use std::time::Clock;
 
 /// End of a service, without a fault.
 #[derive(Clone, Copy, Debug, PartialEq, Eq)]
-pub enum Served {
+pub enum ServiceOutcome {
     /// The journal isn't sound: its audit was written, and this is the program's status.
     Unsound(u8),
     /// The service ended gently: what was in flight is recorded or given up, and all is synced.
@@ -63,31 +63,31 @@ pub enum Served {
 struct Service<'a, R, P, H> {
     rt: &'a R,
     alloc: Global,
-    herald: &'a H,
+    notifier: &'a H,
     address: &'a str,
-    site: &'a Site,
+    site: &'a ServiceSite,
     /// Access policy for requests and members.
-    terms: Terms<'a>,
+    access_policy: AccessPolicy<'a>,
     /// Location of the journal.
     place: &'a P,
     workers: u32,
     settings: Settings,
     /// Operators' server, if there is one.
-    operators: Option<&'a Watchpost>,
+    operators: Option<&'a OperatorsServer>,
 }
 
 /// Parts of a service that is ready to serve: the open file of its journal, the acceptor, the polls of its threads, and
 /// the moment from which their clocks go on.
 #[derive(Drop)]
-struct Stand<'a, R> {
+struct OpenedJournal<'a, R> {
     storage: Storage,
     progress: Arc<Progress<FileDisk>>,
-    keeper: Keeper<&'a R, FileDisk>,
+    journal_writer: JournalWriter<&'a R, FileDisk>,
     end: FileEnd,
-    door: Doorway,
+    acceptor: SocketAcceptor,
     polls: Polls,
     moment: u64,
-    measure: Measure,
+    measure: ServiceStatistics,
 }
 
 /// Journal's file that is open in a storage of its own, and open once more to be read.
@@ -129,7 +129,7 @@ fn open_disk<'a, R: Wait>(
 /// Returns the tallies of a service that begins.
 fn tallies_of(
     alloc: Global,
-    post: Option<&Watchpost>,
+    post: Option<&OperatorsServer>,
     sync_seconds: u64,
 ) -> Result<Tallies, ServeFault>
     ensures { IfErr result IsOfNoScript }
@@ -142,20 +142,20 @@ fn tallies_of(
 
 /// Opens a journal's file, of which all bytes are durable from then on. Returns the parts of a service that is ready to
 /// serve.
-fn stand_on<'a, R: Wait>(
+fn open_journal_at<'a, R: Wait>(
     rt: &'a R,
     alloc: Global,
     file: File,
-    door: Doorway,
+    acceptor: SocketAcceptor,
     polls: Polls,
     tallies: Tallies,
-    begun: Begun,
+    begun: JournalAtStart,
     moment: u64,
-) -> Result<Stand<'a, R>, ServeFault>
+) -> Result<OpenedJournal<'a, R>, ServeFault>
     ensures { IfErr result (λ fault. fault ≡ ServeFault.File) }
 {
     let Some(disk) = open_disk(rt, alloc, file, &tallies) else {
-        drop(door);
+        drop(acceptor);
         drop(polls);
         drop(tallies);
         return Err(ServeFault::File);
@@ -170,15 +170,15 @@ fn stand_on<'a, R: Wait>(
         progress,
         writer,
     } = opened;
-    Ok(Stand {
+    Ok(OpenedJournal {
         storage,
         progress,
-        keeper: writer,
+        journal_writer: writer,
         end,
-        door,
+        acceptor,
         polls,
         moment,
-        measure: Measure {
+        measure: ServiceStatistics {
             file,
             begun,
             tallies,
@@ -189,39 +189,39 @@ fn stand_on<'a, R: Wait>(
 impl<
     R: KeyFiles + Threads + Wait + Clock + Net<Stream = TcpStream, Listener = TcpListener> + Sync,
     P: Place<File = File>,
-    H: Herald + Journalist + Sync,
+    H: Notifier + EventSink + Sync,
 > Service<'_, R, P, H> {
     /// Starts all threads, writes that the service serves, and serves connections until none can come any more.
     fn serve_office<K: Write + Drop + Send, W: Write>(
         &self,
-        shift: &Shift<'_, R, H>,
+        service_state: &ServiceState<'_, R, H>,
         office: &Office<K>,
         clerk: Clerk<Desk<K>>,
         writer: &mut W,
     ) -> Result<(), ServeFault>
         requires { IsOpenAt (P.had self.now.place.now) self.now.site.now.base (limits_of self.now.settings)
-            shift.now.moment office.now clerk }
+            service_state.now.moment office.now clerk }
         ensures said { OnOk result (Appends (W.contents writer.old) (W.contents writer.new)
             (serving_line self.now.address.now)) }
         ensures fault { IfErr result (IsSaid self.now.address.now (W.contents writer.old) (W.contents writer.new)) }
     {
-        let jobs = hire_all(
+        let jobs = spawn_all(
             self.rt,
             self.alloc,
             office,
             clerk,
-            shift.moment,
+            service_state.moment,
             self.workers,
-            shift.is_watched(),
+            service_state.is_watched(),
         )?;
-        work(shift, office, jobs, self.address, writer)
+        work(service_state, office, jobs, self.address, writer)
     }
 
     /// Returns the office of a journal, and its first clerk.
     fn open<K: Write + Drop>(
         &self,
         opening: Opening,
-        keeper: K,
+        journal_writer: K,
         moment: u64,
     ) -> Result<(Office<K>, Clerk<Desk<K>>), ServeFault>
         requires journal { IsRead (P.had self.now.place.now) opening }
@@ -231,19 +231,27 @@ impl<
     {
         let Ok(base) = self.site.base.copy() else {
             drop(opening);
-            drop(keeper);
+            drop(journal_writer);
             return Err(ServeFault::Run(RunFault::Memory));
         };
         let limits = limits_of(&self.settings);
-        open_office(self.rt, self.alloc, base, limits, opening, keeper, moment)
+        open_office(
+            self.rt,
+            self.alloc,
+            base,
+            limits,
+            opening,
+            journal_writer,
+            moment,
+        )
     }
 
     /// Opens the office of a journal, and serves.
     fn serve_journal<K: Write + Drop + Send, W: Write>(
         &self,
-        shift: &Shift<'_, R, H>,
+        service_state: &ServiceState<'_, R, H>,
         opening: Opening,
-        keeper: K,
+        journal_writer: K,
         progress: Arc<Progress<FileDisk>>,
         writer: &mut W,
     ) -> Result<(), ServeFault>
@@ -252,13 +260,13 @@ impl<
             (serving_line self.now.address.now)) }
         ensures fault { IfErr result (IsSaid self.now.address.now (W.contents writer.old) (W.contents writer.new)) }
     {
-        let (office, clerk) = self.open(opening, keeper, shift.moment)?;
-        if shift.add(office.instance(), progress).is_err() {
+        let (office, clerk) = self.open(opening, journal_writer, service_state.moment)?;
+        if service_state.add(office.instance(), progress).is_err() {
             drop(clerk);
             drop(office);
             return Err(ServeFault::Run(RunFault::Memory));
         }
-        let served = self.serve_office(shift, &office, clerk, writer);
+        let served = self.serve_office(service_state, &office, clerk, writer);
         drop(office);
         served
     }
@@ -266,33 +274,33 @@ impl<
     /// Opens the office of a journal with the parts that are ready, and serves. Returns how the service has ended.
     fn serve_at<W: Write>(
         &self,
-        stand: Stand<'_, R>,
+        stand: OpenedJournal<'_, R>,
         opening: Opening,
         writer: &mut W,
-    ) -> Result<Served, ServeFault>
+    ) -> Result<ServiceOutcome, ServeFault>
         requires journal { IsRead (P.had self.now.place.now) opening }
         ensures ended { IfOk result (HasSaid (P.had self.now.place.now) self.now.address.now (W.contents writer.old)
             (W.contents writer.new)) }
         ensures fault { IfErr result (IsSaid self.now.address.now (W.contents writer.old) (W.contents writer.new)) }
     {
-        let Stand {
+        let OpenedJournal {
             storage,
             progress,
-            keeper,
+            journal_writer,
             end: file_end,
-            door,
+            acceptor,
             polls,
             moment,
             measure,
         } = stand;
-        let Doorway { line, ending } = door;
+        let SocketAcceptor { line, ending } = acceptor;
         let journals = storage.journals();
-        let shift = Shift::new(
+        let service_state = ServiceState::new(
             self.rt,
             self.alloc,
-            self.herald,
+            self.notifier,
             &self.settings,
-            self.terms,
+            self.access_policy,
             journals,
             &ending,
             line,
@@ -302,10 +310,10 @@ impl<
             measure,
             file_end,
         );
-        let served = self.serve_journal(&shift, opening, keeper, progress, writer);
-        drop(shift);
+        let served = self.serve_journal(&service_state, opening, journal_writer, progress, writer);
+        drop(service_state);
         if journals.has_failed(self.rt) {
-            self.herald.note(&Event::SyncFailed);
+            self.notifier.note(&Event::SyncFailed);
         }
         let end = end_of(self.rt, journals, &ending);
         drop(storage);
@@ -320,10 +328,10 @@ impl<
     fn stand(
         &self,
         file: File,
-        door: Doorway,
-        begun: Begun,
+        acceptor: SocketAcceptor,
+        begun: JournalAtStart,
         latest: u64,
-    ) -> Result<Stand<'_, R>, ServeFault>
+    ) -> Result<OpenedJournal<'_, R>, ServeFault>
         requires { P.contents file ≡ option_map whole_lines (P.had self.now.place.now) }
         ensures { IfErr result IsOfNoScript }
     {
@@ -335,8 +343,8 @@ impl<
         // If the journal has a later moment, for example by a clock that was wrong, the service goes on from that
         // moment.
         let moment = now.max(latest);
-        stand_on(
-            self.rt, self.alloc, file, door, polls, tallies, begun, moment,
+        open_journal_at(
+            self.rt, self.alloc, file, acceptor, polls, tallies, begun, moment,
         )
     }
 
@@ -345,18 +353,18 @@ impl<
         &self,
         found: Found<File>,
         opening: &Opening,
-        entry: Entry<I>,
-    ) -> Result<Stand<'_, R>, ServeFault>
+        entry: ServiceInput<I>,
+    ) -> Result<OpenedJournal<'_, R>, ServeFault>
         requires found { IsFound P.contents (P.had self.now.place.now) found }
         requires journal { IsRead (P.had self.now.place.now) opening.now }
         ensures { IfErr result IsOfNoScript }
     {
-        let Entry { listener, input } = entry;
+        let ServiceInput { listener, input } = entry;
         let listener = listener_at(self.rt, self.site.socket.as_str(), listener)?;
         let file = ready_file(self.place, found, opening)?;
-        let door = make_doorway(self.rt, self.alloc, listener, input)?;
+        let acceptor = make_socket_acceptor(self.rt, self.alloc, listener, input)?;
         let begun = begun_from(opening, limits_of(&self.settings));
-        self.stand(file, door, begun, opening.last_moment())
+        self.stand(file, acceptor, begun, opening.last_moment())
     }
 
     /// Serves a sound journal, whose file was found.
@@ -364,9 +372,9 @@ impl<
         &self,
         found: Found<File>,
         opening: Opening,
-        entry: Entry<I>,
+        entry: ServiceInput<I>,
         writer: &mut W,
-    ) -> Result<Served, ServeFault>
+    ) -> Result<ServiceOutcome, ServeFault>
         requires found { IsFound P.contents (P.had self.now.place.now) found }
         requires journal { IsRead (P.had self.now.place.now) opening }
         ensures ended { IfOk result (HasSaid (P.had self.now.place.now) self.now.address.now (W.contents writer.old)
@@ -385,9 +393,9 @@ impl<
     /// Finds, locks and audits the journal at its location. Serves it if it is sound, and otherwise writes its audit.
     fn serve_place<I: Read + Send + Drop + 'static, W: Write>(
         &self,
-        entry: Entry<I>,
+        entry: ServiceInput<I>,
         writer: &mut W,
-    ) -> Result<Served, ServeFault>
+    ) -> Result<ServiceOutcome, ServeFault>
         ensures ended { IfOk result (HasSaid (P.had self.now.place.now) self.now.address.now (W.contents writer.old)
             (W.contents writer.new)) }
         ensures fault { IfErr result (IsSaid self.now.address.now (W.contents writer.old) (W.contents writer.new)) }
@@ -398,7 +406,7 @@ impl<
             drop(opening);
             drop(entry);
             return match told {
-                Ok(status) => Ok(Served::Unsound(status)),
+                Ok(status) => Ok(ServiceOutcome::Unsound(status)),
                 Err(fault) => Err(fault),
             };
         }
@@ -428,21 +436,21 @@ pub fn serve_with<
         + Sync,
     P: Place<File = File>,
     I: Read + Send + Drop + 'static,
-    H: Herald + Journalist + Sync,
+    H: Notifier + EventSink + Sync,
     W: Write,
 >(
     rt: &R,
     address: &str,
     base: Option<Base>,
-    terms: Terms<'_>,
+    access_policy: AccessPolicy<'_>,
     place: &P,
     workers: u32,
     settings: Settings,
-    operators: Option<&Watchpost>,
-    entry: Entry<I>,
-    herald: &H,
+    operators: Option<&OperatorsServer>,
+    entry: ServiceInput<I>,
+    notifier: &H,
     writer: &mut W,
-) -> Result<Served, ServeFault>
+) -> Result<ServiceOutcome, ServeFault>
     ensures ended { IfOk result (HasSaid (P.had place.now) address.now (W.contents writer.old)
         (W.contents writer.new)) }
     ensures fault { IfErr result (IsSaid address.now (W.contents writer.old) (W.contents writer.new)) }
@@ -454,10 +462,10 @@ pub fn serve_with<
     let service = Service {
         rt,
         alloc,
-        herald,
+        notifier,
         address,
         site: &site,
-        terms,
+        access_policy,
         place,
         workers,
         settings,
@@ -489,21 +497,21 @@ pub fn serve_from<
         rt,
         address,
         None,
-        Terms::usual(&rules),
+        AccessPolicy::usual(&rules),
         place,
         workers,
         usual,
         None,
-        Entry {
+        ServiceInput {
             listener: None,
             input: None::<File>,
         },
-        &Quiet,
+        &NullNotifier,
         writer,
     ) {
-        Ok(Served::Unsound(status)) => Ok(status),
+        Ok(ServiceOutcome::Unsound(status)) => Ok(status),
         // Nothing asks the service to end gently.
-        Ok(Served::Ended) => Err(ServeFault::Address),
+        Ok(ServiceOutcome::Ended) => Err(ServeFault::Address),
         Err(fault) => Err(fault),
     }
 }

@@ -4,9 +4,9 @@ ghost use Rattle.std.specs.Prelude.{◌≡◌};
 ghost use Rattle.lra_commands.specs.Terms.{AreKeepable};
 ghost use Rattle.lra_service.specs.Limited.{limits_of};
 
-use lra_callbacks::{Names, Patience, Quota, Share};
+use lra_callbacks::{Quota, SharedDnsCache, TimeOuts, WorkerQuota};
 use lra_commands::Limits;
-use lra_rounds::Times;
+use lra_event_loop::Times;
 use lra_settings::Settings;
 use std::alloc::Global;
 
@@ -27,11 +27,11 @@ pub fn times_of(settings: &Settings) -> Times {
 /// State that all callback workers of a service share: the DNS cache of members' hosts, and the quota of callbacks that
 /// go out at once.
 #[derive(Drop)]
-pub struct Calling {
-    pub names: Names,
+pub struct CallbackSettings {
+    pub names: SharedDnsCache,
     pub quota: Quota,
     /// Quota of errands of each worker, and the time-outs of a callback.
-    pub share: Share,
+    pub worker_quota: WorkerQuota,
 }
 
 /// Returns a number, or the largest one that fits.
@@ -39,21 +39,21 @@ fn fitted(number: u64) -> u32 {
     u32::try_from(number).unwrap_or(u32::MAX)
 }
 
-impl Calling {
+impl CallbackSettings {
     /// Returns the shared state of so many callback workers, by some settings: nothing goes out yet.
-    pub fn new(alloc: Global, settings: &Settings, workers: usize) -> Calling {
-        let patience = Patience {
+    pub fn new(alloc: Global, settings: &Settings, workers: usize) -> CallbackSettings {
+        let time_outs = TimeOuts {
             connect: in_ms(settings.connect_seconds),
             reply: in_ms(settings.callback_seconds),
         };
-        Calling {
-            names: Names::new(alloc),
+        CallbackSettings {
+            names: SharedDnsCache::new(alloc),
             quota: Quota::new(
                 alloc,
                 fitted(settings.callbacks),
                 fitted(settings.host_share),
             ),
-            share: Share::of(fitted(workers as u64), patience),
+            worker_quota: WorkerQuota::of(fitted(workers as u64), time_outs),
         }
     }
 }

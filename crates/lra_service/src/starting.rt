@@ -7,12 +7,12 @@ ghost use Rattle.lra_opening.specs.Ends.{serving_line, IsSaid};
 ghost use Rattle.lra_service.specs.inner.Opened.{IsAt};
 
 use crate::ending::say;
-use crate::post::Duty;
-use crate::shift::Shift;
+use crate::post::Role;
+use crate::service_state::ServiceState;
 use lra_admission::KeyFiles;
-use lra_logs::Journalist;
+use lra_logs::EventSink;
 use lra_office::{Clerk, OfficeOf, Serving};
-use lra_opening::{Herald, ServeFault};
+use lra_opening::{Notifier, ServeFault};
 use std::io::Write;
 use std::marker::{Send, Sync};
 use std::net::{Net, TcpListener, TcpStream};
@@ -27,12 +27,12 @@ use std::time::Clock;
 pub(crate) fn work<
     V: Serving + Send,
     R: KeyFiles + Threads + Wait + Clock + Net<Stream = TcpStream, Listener = TcpListener> + Sync,
-    H: Herald + Journalist + Sync,
+    H: Notifier + EventSink + Sync,
     W: Write,
 >(
-    shift: &Shift<'_, R, H>,
+    service_state: &ServiceState<'_, R, H>,
     office: &OfficeOf<V>,
-    jobs: Vec<(Duty, Clerk<V>)>,
+    jobs: Vec<(Role, Clerk<V>)>,
     address: &str,
     writer: &mut W,
 ) -> Result<(), ServeFault>
@@ -40,10 +40,10 @@ pub(crate) fn work<
     ensures said { OnOk result (Appends (W.contents writer.old) (W.contents writer.new) (serving_line address.now)) }
     ensures fault { IfErr result (IsSaid address.now (W.contents writer.old) (W.contents writer.new)) }
 {
-    shift.expect(jobs.len());
+    service_state.expect(jobs.len());
     let (worked, back) = thread::scope(
         thread::scope_env(),
-        shift.rt,
+        service_state.rt,
         move |scope|
             requires { IsSync R.row × IsSync H.row × IsSend V.row × All
                 (λ job. IsAt V.setting V.covers office.now job.1) jobs.items }
@@ -58,24 +58,24 @@ pub(crate) fn work<
                     scope,
                     move ||
                         requires { IsAt V.setting V.covers office.now job.1 }
-                    { shift.stand(office, job.0, job.1) },
+                    { service_state.stand(office, job.0, job.1) },
                 );
                 if started.is_err() {
-                    return (Err(shift.give_up()), writer);
+                    return (Err(service_state.give_up()), writer);
                 }
             }
-            let reports = Builder::new().spawn_scoped(scope, move || shift.stand_and_report());
-            let first = Builder::new().spawn_scoped(scope, move || shift.stand_and_look_up());
-            let second = Builder::new().spawn_scoped(scope, move || shift.stand_and_look_up());
+            let reports = Builder::new().spawn_scoped(scope, move || service_state.start_reports());
+            let first = Builder::new().spawn_scoped(scope, move || service_state.start_resolver());
+            let second = Builder::new().spawn_scoped(scope, move || service_state.start_resolver());
             if reports.is_err() || first.is_err() || second.is_err() {
-                return (Err(shift.give_up()), writer);
+                return (Err(service_state.give_up()), writer);
             }
-            let said = say(shift.alloc, address, writer);
+            let said = say(service_state.alloc, address, writer);
             if said.is_ok() {
-                shift.begin(office.instance());
-                shift.admit();
+                service_state.begin(office.instance());
+                service_state.admit();
             } else {
-                let _ = shift.give_up();
+                let _ = service_state.give_up();
             }
             (said, writer)
         },

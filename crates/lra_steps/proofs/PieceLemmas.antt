@@ -16,8 +16,8 @@ use Rattle.lra_commands.specs.Counters.{Setting, Sight, KeepsHistory}
 use Rattle.lra_front.specs.declared.stream.StreamEnd.{StreamEnd}
 use Rattle.lra_front.specs.declared.stream.StreamEnd.TheVariants.{Done, Refused, WriteFault}
 use Rattle.lra_front.specs.Transcripts.{Chain as FrontChain, EndsAfter as FrontEnds, Spells, IsFront}
-use Rattle.lra_steps.specs.declared.connection.Step.TheVariants.{Stands, Ended}
-use Rattle.lra_steps.specs.declared.responder.Answered.{Answered}
+use Rattle.lra_steps.specs.declared.connection.Step.TheVariants.{RequestReady, Ended}
+use Rattle.lra_steps.specs.declared.handler.Answered.{Answered}
 use Rattle.lra_steps.specs.History.{History, IsServed, IsLasting, IsOpenSo, Replies, EndsAfter, Turn, plain}
 use Rattle.lra_steps.specs.History.{fault_reply, ordered, took, finished, went}
 use Rattle.lra_steps.specs.Steps.{StepsTo, Tells}
@@ -199,7 +199,7 @@ module _ (S K : Type 0) (base_of : S → List ℕ) (responds : S → ℕ → Req
       pub closed : new.closed ≡ h.closed
       pub shorter : length new.kept < length h.kept
 
-    pub passes : (h mid new : History) (w x : S) (l m : K) (answered : Answered) → StepsTo Stands h mid
+    pub passes : (h mid new : History) (w x : S) (l m : K) (answered : Answered) → StepsTo RequestReady h mid
         → IfSome mid.stands (λ request. Answers responds tells request answered w x l m mid new) → Passes h new w x l m
     passes h mid new w x l m answered s all =
         let request : Request = s.0 in

@@ -10,7 +10,7 @@ use Rattle.lra_front.specs.declared.stream.StreamEnd.TheVariants.{Done, Refused,
 use Rattle.lra_front.specs.Replies.{reply_bytes}
 use Rattle.lra_front.specs.Streams.{fault_answer, is_head, closes_after}
 use Rattle.lra_front.specs.Transcripts.{Turn as FrontTurn, Spells, StaysOpen, StaysOpenBefore, ClosesLast, IsFront}
-use Rattle.lra_steps.specs.declared.responder.Answered.{Answered}
+use Rattle.lra_steps.specs.declared.handler.Answered.{Answered}
 
 -- a request, the moment at which it was answered, its answer, and the instance that answered
 pub record Turn : Type 0 where

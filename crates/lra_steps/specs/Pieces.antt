@@ -9,7 +9,7 @@ use Rattle.lra_commands.specs.Counters.{Sight}
 use Rattle.lra_front.specs.declared.stream.StreamEnd.{StreamEnd}
 use Rattle.lra_front.specs.Streams.{standing}
 use Rattle.lra_front.specs.Transcripts.{Spells, Transcript}
-use Rattle.lra_steps.specs.declared.responder.Answered.{Answered}
+use Rattle.lra_steps.specs.declared.handler.Answered.{Answered}
 use Rattle.lra_steps.specs.Positions.{AnswersOrdered, IsCovered}
 use Rattle.lra_steps.specs.History.{History, Turn, EndsAfter, plain}
 use Rattle.lra_steps.specs.Steps.{Tells}

@@ -6,13 +6,13 @@ use Rattle.lra_commands.specs.declared.counter.Order.{Order}
 use Rattle.lra_commands.specs.declared.counter.CounterFault.{CounterFault}
 use Rattle.lra_commands.specs.Counters.{Sight}
 use Rattle.lra_front.specs.declared.answer.Answer.TheVariants.{Denied}
-use Rattle.lra_front.specs.declared.denial.Denial.{Denial}
+use Rattle.lra_front.specs.declared.api_error.ApiError.{ApiError}
 use Rattle.lra_front.specs.Serving.{Orders}
-use Rattle.lra_steps.specs.declared.responder.Answered.{Answered}
+use Rattle.lra_steps.specs.declared.handler.Answered.{Answered}
 
 -- an API error for which no coordinator was asked: it has no position
-abbrev pub denied : ℕ → Denial → Answered
-denied instance denial = record { instance = instance; answer = Denied denial; position = None }
+abbrev pub denied : ℕ → ApiError → Answered
+denied instance api_error = record { instance = instance; answer = Denied api_error; position = None }
 
 -- what the HTTP interface does over a counter: an order was given if and only if the answer has a position
 abbrev pub AnswersOrdered : (Sight → ℕ → Order → Result Told CounterFault → Sight → Type 0) → Sight → ℕ → Request

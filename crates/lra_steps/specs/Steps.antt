@@ -8,7 +8,7 @@ use Rattle.lra_wire.specs.Request.{Request, IsRequest, RefusesRequest, AwaitsReq
 use Rattle.lra_front.specs.declared.stream.StreamEnd.{StreamEnd}
 use Rattle.lra_front.specs.declared.stream.StreamEnd.TheVariants.{Done, Refused, WriteFault}
 use Rattle.lra_steps.specs.declared.connection.Step.{Step}
-use Rattle.lra_steps.specs.declared.connection.Step.TheVariants.{Wants, Stands, Waits, Ended}
+use Rattle.lra_steps.specs.declared.connection.Step.TheVariants.{NeedsInput, RequestReady, ReplyPending, Ended}
 use Rattle.lra_steps.specs.History.{History, Turn, room_of, took, ordered, answered, lost, ended_by}
 
 -- the connection goes on, and no request stands
@@ -24,11 +24,11 @@ Ends WriteFault h = ⊥
 
 -- what a step means for the history before it, and what it changes
 abbrev pub StepsTo : Step → History → History → Type 0
-StepsTo Wants old new = IsFree old × IsFalse old.closed × AwaitsRequest old.kept × (length old.kept < 73728)
+StepsTo NeedsInput old new = IsFree old × IsFalse old.closed × AwaitsRequest old.kept × (length old.kept < 73728)
     × (new ≡ old)
-StepsTo Stands old new = (request : Request) × (rest : List ℕ) × IsFree old × IsRequest old.kept request rest
+StepsTo RequestReady old new = (request : Request) × (rest : List ℕ) × IsFree old × IsRequest old.kept request rest
     × (new ≡ ordered old request rest)
-StepsTo Waits old new = (old.ended ≡ None) × IsSome old.stands × (new ≡ old)
+StepsTo ReplyPending old new = (old.ended ≡ None) × IsSome old.stands × (new ≡ old)
 StepsTo (Ended end) old new = ((old.ended ≡ Some end) × (new ≡ old)) ⊎
     (IsFree old × Ends end old × (new ≡ ended_by old end))
 

@@ -28,15 +28,17 @@ ghost use Rattle.lra_steps.specs.Steps.{Steps, Takes, Tells};
 ghost use Rattle.lra_steps.specs.inner.Ends.{Finds, EndsWithout};
 ghost use Rattle.lra_steps.specs.inner.Fields.{backs, fronts, turn_of};
 
+use crate::handler::Answered;
 use crate::queue::Queue;
 use crate::reply::{push_fault, push_reply};
-use crate::responder::Answered;
 use http::Method;
 use lra_front::StreamEnd;
 use lra_ids::{Base, Instance};
 use lra_log::Log;
 use lra_model::Memory;
-use lra_wire::{Front, RequestRead, Seen, WireFault, end_fault, request_front, request_front_seen};
+use lra_wire::{
+    Front, RequestCursor, RequestRead, WireFault, end_fault, request_front, request_front_seen,
+};
 use std::alloc::{AllocError, Global};
 use std::marker::Model;
 use std::snapshot::Snapshot;
@@ -51,11 +53,11 @@ const MOST_OTHERS: u64 = 999;
 #[derive(Clone, Copy, Debug, PartialEq, Eq)]
 pub enum Step {
     /// More bytes have to come.
-    Wants,
+    NeedsInput,
     /// A request was read, and stands: the caller has to answer it, once.
-    Stands,
+    RequestReady,
     /// The request that stands wasn't answered yet.
-    Waits,
+    ReplyPending,
     /// No request comes any more. The caller has to send what is left of the output.
     Ended(StreamEnd),
 }
@@ -76,7 +78,7 @@ pub struct Connection {
     kept: Queue,
     out: Queue,
     /// Findings on the bytes that are kept, so that they aren't read anew with each piece.
-    seen: Seen,
+    seen: RequestCursor,
     /// Request that stands to be answered.
     stands: Option<RequestRead>,
     ended: Option<StreamEnd>,
@@ -138,7 +140,7 @@ fn next_front(
     alloc: Global,
     kept: &[u8],
     closed: bool,
-    seen: &mut Seen,
+    seen: &mut RequestCursor,
 ) -> Result<Option<Front>, WireFault>
     requires { Sees seen.old kept.now }
     ensures front { Finds closed kept.now result }
@@ -204,7 +206,7 @@ impl Connection {
             instance,
             kept: Queue::new(alloc),
             out: Queue::new(alloc),
-            seen: Seen::nothing(),
+            seen: RequestCursor::nothing(),
             stands: None,
             ended: None,
             closed: false,
@@ -263,7 +265,7 @@ impl Connection {
             return Ok(Step::Ended(end));
         }
         if self.stands.is_some() {
-            return Ok(Step::Waits);
+            return Ok(Step::ReplyPending);
         }
         match next_front(
             self.alloc,
@@ -273,12 +275,12 @@ impl Connection {
         ) {
             Ok(Some(front)) => {
                 self.kept.advance(front.len);
-                self.seen = Seen::nothing();
+                self.seen = RequestCursor::nothing();
                 self.stands = Some(front.request);
-                Ok(Step::Stands)
+                Ok(Step::RequestReady)
             }
             Ok(None) => match end_without(self.closed, self.kept.as_slice()) {
-                None => Ok(Step::Wants),
+                None => Ok(Step::NeedsInput),
                 Some(end) => {
                     self.ended = Some(end);
                     Ok(Step::Ended(end))
@@ -308,7 +310,7 @@ impl Connection {
     /// Replies to the request that stands with an answer, which was given at that moment. The reply names identifiers
     /// of the instance that answered. Where memory for it is refused, the reply is lost and the connection ends. The
     /// request doesn't stand any more in either case.
-    pub fn told(&mut self, base: &Base, moment: u64, answered: Answered) -> Result<(), Memory>
+    pub fn push_reply(&mut self, base: &Base, moment: u64, answered: Answered) -> Result<(), Memory>
         requires stands { IsSome self.old.stands }
         requires numbers { HasIdentifiers answered.answer }
         requires value { base.now ≡ self.old.base }
@@ -344,7 +346,7 @@ impl Connection {
     }
 
     /// Drops the first `count` bytes of the output, which were sent.
-    pub fn gone(&mut self, count: usize)
+    pub fn advance_by(&mut self, count: usize)
         requires { count ≤ length self.old.out }
         ensures { self.new ≡ went self.old count }
     {

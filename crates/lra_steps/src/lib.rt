@@ -3,11 +3,11 @@
 #![tactic(auto)]
 
 mod connection;
+mod handler;
 mod queue;
 mod reply;
-mod responder;
 mod serve;
 
 pub use connection::{Connection, Step};
-pub use responder::{Answered, Responder};
+pub use handler::{Answered, Handler};
 pub use serve::{answer_pieces, answer_request, serve_pieces};

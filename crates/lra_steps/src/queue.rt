@@ -13,7 +13,7 @@ const LEAST: usize = 256;
 #[derive(Drop)]
 pub(crate) struct Queue {
     bytes: Vec<u8>,
-    gone: usize,
+    advance_by: usize,
 }
 
 impl Model for Queue {
@@ -21,9 +21,9 @@ impl Model for Queue {
 
     ghost Value = { List ℕ };
 
-    ghost view = { λ q. drop q.gone q.bytes.items };
+    ghost view = { λ q. drop q.advance_by q.bytes.items };
 
-    ghost invariant = { λ q. q.gone ≤ vec_len q.bytes };
+    ghost invariant = { λ q. q.advance_by ≤ vec_len q.bytes };
 }
 
 impl Queue {
@@ -32,14 +32,14 @@ impl Queue {
     {
         Queue {
             bytes: Vec::new(alloc),
-            gone: 0,
+            advance_by: 0,
         }
     }
 
     pub(crate) fn as_slice(&self) -> &[u8]
         ensures { result.now ≡ self.now }
     {
-        &self.bytes.as_slice()[self.gone..]
+        &self.bytes.as_slice()[self.advance_by..]
     }
 
     /// Appends bytes. It first moves the bytes that are still there to the front of their buffer.
@@ -47,10 +47,10 @@ impl Queue {
         ensures ok { OnOk result (self.new ≡ self.old ++ more.now) }
         ensures err { OnErr result (self.new ≡ self.old) }
     {
-        let left = self.bytes.len() - self.gone;
-        self.bytes.copy_within(self.gone.., 0);
+        let left = self.bytes.len() - self.advance_by;
+        self.bytes.copy_within(self.advance_by.., 0);
         self.bytes.truncate(left);
-        self.gone = 0;
+        self.advance_by = 0;
         self.bytes.extend_from_slice(more)
     }
 
@@ -59,8 +59,8 @@ impl Queue {
         requires { count ≤ length self.old }
         ensures { self.new ≡ drop count self.old }
     {
-        self.gone += count;
-        if self.gone == self.bytes.len() {
+        self.advance_by += count;
+        if self.advance_by == self.bytes.len() {
             self.clear();
         }
     }
@@ -74,6 +74,6 @@ impl Queue {
         } else {
             self.bytes.clear();
         }
-        self.gone = 0;
+        self.advance_by = 0;
     }
 }

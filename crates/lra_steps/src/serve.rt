@@ -5,7 +5,7 @@ ghost use Rattle.lra_steps.specs.Pieces.{Answers, Serves, ServesBytes};
 ghost use Rattle.lra_steps.specs.inner.Feeding.{Follows, Fed, IsFresh};
 
 use crate::connection::{Connection, Step};
-use crate::responder::{Answered, Responder};
+use crate::handler::{Answered, Handler};
 use lra_commands::Session;
 use lra_front::{Clock, Routes, StreamEnd};
 use lra_ids::Instance;
@@ -14,55 +14,55 @@ use std::alloc::Global;
 
 /// Answers the request that stands, at the moment that the clock returns. Returns the answer. Where memory for the
 /// reply is refused, what the request did stays done, and the connection ends.
-pub fn answer_request<A: Responder, K: Clock>(
+pub fn answer_request<A: Handler, K: Clock>(
     alloc: Global,
     routes: &Routes,
     connection: &mut Connection,
-    responder: &mut A,
+    handler: &mut A,
     clock: &mut K,
 ) -> Answered
     requires stands { IsSome connection.old.stands }
-    requires base { connection.old.base ≡ A.base_of (A.sight responder.old) }
+    requires base { connection.old.base ≡ A.base_of (A.sight handler.old) }
     ensures { IfSome connection.old.stands (λ request. Answers A.responds K.tells request result
-        (A.sight responder.old) (A.sight responder.new) clock.old clock.new connection.old connection.new) }
+        (A.sight handler.old) (A.sight handler.new) clock.old clock.new connection.old connection.new) }
 {
     let moment = clock.now();
     let Some(request) = connection.request() else {
         unreachable!();
     };
-    let answered = responder.respond(alloc, routes, moment, request);
+    let answered = handler.respond(alloc, routes, moment, request);
     // Where the reply is lost, the connection's next step says so.
     let reply = answered;
-    let _ = connection.told(responder.base(), moment, reply);
+    let _ = connection.push_reply(handler.base(), moment, reply);
     answered
 }
 
 /// Feeds a piece of any length to the connection, and answers all requests that become whole. Returns how the
 /// connection ended, if it did.
-fn feed<A: Responder, K: Clock>(
+fn feed<A: Handler, K: Clock>(
     alloc: Global,
     routes: &Routes,
     connection: &mut Connection,
     piece: &[u8],
-    responder: &mut A,
+    handler: &mut A,
     clock: &mut K,
 ) -> Result<Option<StreamEnd>, Memory>
     requires none { connection.old.stands ≡ None }
-    requires base { connection.old.base ≡ A.base_of (A.sight responder.old) }
+    requires base { connection.old.base ≡ A.base_of (A.sight handler.old) }
     ensures { IfOk result (λ end. (v : A.State) (k : K) → Follows A.base_of A.responds K.tells v k connection.old
-        (A.sight responder.old) clock.old
-        → Fed A.base_of A.responds K.tells end piece.now v k connection.old connection.new (A.sight responder.new)
+        (A.sight handler.old) clock.old
+        → Fed A.base_of A.responds K.tells end piece.now v k connection.old connection.new (A.sight handler.new)
         clock.new) }
 {
     let mut at = 0;
     loop {
-        match connection.next(responder.base())? {
-            Step::Stands => {
-                let _ = answer_request(alloc, routes, connection, responder, clock);
+        match connection.next(handler.base())? {
+            Step::RequestReady => {
+                let _ = answer_request(alloc, routes, connection, handler, clock);
             }
-            Step::Waits => unreachable!(),
+            Step::ReplyPending => unreachable!(),
             Step::Ended(end) => return Ok(Some(end)),
-            Step::Wants => {
+            Step::NeedsInput => {
                 if at == piece.len() {
                     return Ok(None);
                 }
@@ -84,34 +84,27 @@ fn flush(connection: &mut Connection, sent: &mut Vec<u8>) -> Result<(), Memory>
     let out = connection.out();
     let count = out.len();
     sent.extend_from_slice(out)?;
-    connection.gone(count);
+    connection.advance_by(count);
     Ok(())
 }
 
 /// Serves the pieces and then the end of their stream, and appends all replies to `sent`.
-fn serve_through<A: Responder, K: Clock>(
+fn serve_through<A: Handler, K: Clock>(
     alloc: Global,
     routes: &Routes,
     connection: &mut Connection,
     pieces: &[Vec<u8>],
     sent: &mut Vec<u8>,
-    responder: &mut A,
+    handler: &mut A,
     clock: &mut K,
 ) -> Result<StreamEnd, Memory>
-    requires { IsFresh (A.base_of (A.sight responder.old)) connection.old }
-    ensures { IfOk result (λ end. Serves A.responds K.tells connection.old.instance (A.base_of (A.sight responder.old))
-        (flat_map (λ piece. piece.items) pieces.now) sent.old.items (A.sight responder.old) clock.old end sent.new.items
-        (A.sight responder.new) clock.new) }
+    requires { IsFresh (A.base_of (A.sight handler.old)) connection.old }
+    ensures { IfOk result (λ end. Serves A.responds K.tells connection.old.instance (A.base_of (A.sight handler.old))
+        (flat_map (λ piece. piece.items) pieces.now) sent.old.items (A.sight handler.old) clock.old end sent.new.items
+        (A.sight handler.new) clock.new) }
 {
     for piece in pieces {
-        let end = feed(
-            alloc,
-            routes,
-            connection,
-            piece.as_slice(),
-            responder,
-            clock,
-        )?;
+        let end = feed(alloc, routes, connection, piece.as_slice(), handler, clock)?;
         flush(connection, sent)?;
         if let Some(end) = end {
             connection.served();
@@ -119,7 +112,7 @@ fn serve_through<A: Responder, K: Clock>(
         }
     }
     connection.finish();
-    let end = feed(alloc, routes, connection, b"", responder, clock)?;
+    let end = feed(alloc, routes, connection, b"", handler, clock)?;
     flush(connection, sent)?;
     connection.served();
     match end {
@@ -129,27 +122,27 @@ fn serve_through<A: Responder, K: Clock>(
 }
 
 /// Serves the pieces over a new connection. Its replies to faults of reading name identifiers of that instance.
-fn serve_new<A: Responder, K: Clock>(
+fn serve_new<A: Handler, K: Clock>(
     alloc: Global,
     instance: Instance,
     pieces: &[Vec<u8>],
     sent: &mut Vec<u8>,
-    responder: &mut A,
+    handler: &mut A,
     clock: &mut K,
 ) -> Result<StreamEnd, Memory>
-    ensures { IfOk result (λ end. Serves A.responds K.tells instance (A.base_of (A.sight responder.old))
-        (flat_map (λ piece. piece.items) pieces.now) sent.old.items (A.sight responder.old) clock.old end sent.new.items
-        (A.sight responder.new) clock.new) }
+    ensures { IfOk result (λ end. Serves A.responds K.tells instance (A.base_of (A.sight handler.old))
+        (flat_map (λ piece. piece.items) pieces.now) sent.old.items (A.sight handler.old) clock.old end sent.new.items
+        (A.sight handler.new) clock.new) }
 {
     let routes = Routes::new(alloc)?;
-    let mut connection = Connection::new(alloc, instance, responder.base());
+    let mut connection = Connection::new(alloc, instance, handler.base());
     let end = serve_through(
         alloc,
         &routes,
         &mut connection,
         pieces,
         sent,
-        responder,
+        handler,
         clock,
     );
     drop(connection);
@@ -160,20 +153,20 @@ fn serve_new<A: Responder, K: Clock>(
 /// Answers a stream that comes in these pieces, by a handler, and appends the replies to `sent`. It answers each
 /// request once and in order, at a moment that the clock returns, however the bytes are cut. Returns an error where
 /// memory is refused, unless that is for a reply.
-pub fn answer_pieces<A: Responder, K: Clock>(
+pub fn answer_pieces<A: Handler, K: Clock>(
     alloc: Global,
     pieces: &[Vec<u8>],
     sent: &mut Vec<u8>,
-    responder: &mut A,
+    handler: &mut A,
     clock: &mut K,
 ) -> Result<StreamEnd, Memory>
     ensures { IfOk result (λ end. (instance : ℕ) × Serves A.responds K.tells instance
-        (A.base_of (A.sight responder.old))
-        (flat_map (λ piece. piece.items) pieces.now) sent.old.items (A.sight responder.old) clock.old end sent.new.items
-        (A.sight responder.new) clock.new) }
+        (A.base_of (A.sight handler.old))
+        (flat_map (λ piece. piece.items) pieces.now) sent.old.items (A.sight handler.old) clock.old end sent.new.items
+        (A.sight handler.new) clock.new) }
 {
-    let instance = responder.instance();
-    serve_new(alloc, instance, pieces, sent, responder, clock)
+    let instance = handler.instance();
+    serve_new(alloc, instance, pieces, sent, handler, clock)
 }
 
 /// Answers a stream that comes in these pieces, and appends the replies to `sent`. It does and replies what

@@ -1,5 +1,5 @@
 //! Callbacks: their requests, the outcomes of replies, and streams that fail.
-mod carrying;
+mod callback_exchange;
 mod dialling;
 mod errands;
 mod limits;

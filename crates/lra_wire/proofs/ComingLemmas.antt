@@ -10,22 +10,22 @@ use Rattle.std.proofs.lemmas.List.Folds.{list_any-append}
 use Rattle.std.proofs.lemmas.List.Elements.{All-push, All-nil}
 use Rattle.httparse.specs.Grammar.{print_response, HasNoResponse, MayBecomeResponse, status_code}
 use Rattle.lra_wire.specs.declared.chunks.ChunksRead.{ChunksRead}
-use Rattle.lra_wire.specs.declared.coming.SeenResponse.{SeenResponse}
+use Rattle.lra_wire.specs.declared.response_parse.ResponseCursor.{ResponseCursor}
 use Rattle.lra_wire.specs.declared.wanted.Wanted.{Wanted}
 use Rattle.lra_wire.specs.declared.wanted.Wanted.TheVariants.{Feed, Bytes}
 use Rattle.lra_wire.specs.declared.fault.WireFault.{WireFault}
 use Rattle.lra_wire.specs.declared.fault.WireFault.TheVariants.{BadHead, Chunked, BadLength, TooLarge, Cut}
-use Rattle.lra_wire.specs.declared.fields.Stated.{Stated}
-use Rattle.lra_wire.specs.declared.fields.Stated.TheVariants.{Nothing, Length, Malformed}
+use Rattle.lra_wire.specs.declared.fields.ContentLength.{ContentLength}
+use Rattle.lra_wire.specs.declared.fields.ContentLength.TheVariants.{Nothing, Length, Malformed}
 use Rattle.lra_wire.specs.declared.framing.Framing.{Framing}
 use Rattle.lra_wire.specs.declared.framing.Framing.TheVariants.{Sized, Chunks, ToTheEnd}
 use Rattle.lra_wire.specs.declared.response.Head.{Head}
-use Rattle.lra_wire.specs.Coming.{Lasts, IsWhole, IsOpen}
+use Rattle.lra_wire.specs.ResponseParse.{Lasts, IsWhole, IsOpen}
 use Rattle.lra_wire.specs.Fields.{is_alike, values_of, stated_of}
 use Rattle.lra_wire.specs.Response.{NeverShort, is_interim, IsInterim, HasFinal, fields_in, stated_framing}
 use Rattle.lra_wire.specs.Response.{coded_framing, framing_of, IsBody, RefusesFramed, IsResponse, EndsInResponse}
 use Rattle.lra_wire.specs.Response.{RefusesResponse, IsOpenResponse, AwaitsBody, AwaitsResponse}
-use Rattle.lra_wire.specs.Seen.{SeesResponse}
+use Rattle.lra_wire.specs.RequestCursor.{SeesResponse}
 use Rattle.lra_wire.specs.inner.Wanted.{IsMissing, count_wanted, HasLooked, IsOpenAt, Seeks, LastsAt}
 use Rattle.lra_wire.specs.inner.Parts.{SkipsTo, Heads, IsFinalOf, FindsHead, SeesBody, IsBodyTo, EndsBody, EndsOpen}
 use Rattle.lra_wire.specs.inner.Parts.{IsHeadOf, IsSmall}
@@ -251,7 +251,7 @@ rest_large bytes start long =
 -- ---- responses
 
 -- which faults a framing has
-stated_lasts : (P : List ℕ → WireFault → Type 0) (bytes : List ℕ) (stated : Stated) (fault : WireFault)
+stated_lasts : (P : List ℕ → WireFault → Type 0) (bytes : List ℕ) (stated : ContentLength) (fault : WireFault)
     → stated_framing stated ≡ Err fault → ((more : List ℕ) → P (bytes ++ more) fault) → Lasts P bytes fault
 stated_lasts P bytes Nothing fault e h = absurd cc
 stated_lasts P bytes (Length n) fault e h = go (nat_le n 65536) e
@@ -265,7 +265,7 @@ stated_lasts P bytes Malformed fault e h =
     let same : BadLength ≡ fault = cc in subst (λ (x : WireFault). Lasts P bytes x) same
     (λ more. subst (λ (x : WireFault). P (bytes ++ more) x) (sym same) (h more))
 
-coded_lasts : (P : List ℕ → WireFault → Type 0) (bytes : List ℕ) (codings : List (List ℕ)) (stated : Stated)
+coded_lasts : (P : List ℕ → WireFault → Type 0) (bytes : List ℕ) (codings : List (List ℕ)) (stated : ContentLength)
     (fault : WireFault) → coded_framing codings stated ≡ Err fault
     → ((more : List ℕ) → P (bytes ++ more) fault) → Lasts P bytes fault
 coded_lasts P bytes [] stated fault e h = stated_lasts P bytes stated fault e h
@@ -482,7 +482,7 @@ still_bytes bytes count s few = record { next = few; bound = s.bound; awaits = �
 -- ---- what was seen
 
 -- the final head that was found, and where its body begins
-pub seen_final : (seen : SeenResponse) (bytes : List ℕ) (found : Option Head) (head : Head) → SeesResponse seen bytes
+pub seen_final : (seen : ResponseCursor) (bytes : List ℕ) (found : Option Head) (head : Head) → SeesResponse seen bytes
     → found ≡ Some head → FindsHead seen.head bytes (Ok found)
     → IsFinalOf bytes head × (seen.chunks.start ≡ head.len) × HasRead bytes seen.chunks
 seen_final seen bytes found head s is finds =
@@ -514,7 +514,7 @@ looked_on : (wanted : Wanted) (bytes more : List ℕ) → HasLooked wanted bytes
 looked_on (Feed looked) bytes more within = omega (arith, within, length-append bytes more)
 looked_on (Bytes count) bytes more within = tt
 
-pub sees_more : (seen : SeenResponse) (bytes more : List ℕ) → SeesResponse seen bytes
+pub sees_more : (seen : ResponseCursor) (bytes more : List ℕ) → SeesResponse seen bytes
     → SeesResponse seen (bytes ++ more)
 sees_more seen bytes more s = record {
   passed = heads_on bytes more seen.passed.end seen.passed.count s.passed;
@@ -532,6 +532,6 @@ pub sees_nothing : (bytes : List ℕ) → Seeks (Bytes 0) bytes
 sees_nothing bytes = record { looked = tt; bound = omega arith; awaits = λ more few. absurd (omega (arith, few)) }
 
 -- more is wanted
-pub sees_open : (seen : SeenResponse) (bytes : List ℕ) (wanted : Wanted) → SeesResponse seen bytes
+pub sees_open : (seen : ResponseCursor) (bytes : List ℕ) (wanted : Wanted) → SeesResponse seen bytes
     → IsOpenAt AwaitsResponse 0 bytes wanted → SeesResponse (record seen { wanted = wanted }) bytes
 sees_open seen bytes wanted s o = record { passed = s.passed; body = s.body; wanted = open_seeks bytes wanted o }

@@ -13,12 +13,12 @@ use Rattle.httparse.specs.Spans.{header_bytes}
 use Rattle.httparse.proofs.GrammarLemmas.{ReadsRequest-append}
 use Rattle.lra_wire.specs.declared.fault.WireFault.{WireFault}
 use Rattle.lra_wire.specs.declared.fault.WireFault.TheVariants.{BadHead, Chunked, BadLength, TooLarge, Cut, Io, Memory}
-use Rattle.lra_wire.specs.declared.fields.Stated.{Stated}
-use Rattle.lra_wire.specs.declared.fields.Stated.TheVariants.{Nothing, Length, Malformed}
+use Rattle.lra_wire.specs.declared.fields.ContentLength.{ContentLength}
+use Rattle.lra_wire.specs.declared.fields.ContentLength.TheVariants.{Nothing, Length, Malformed}
 use Rattle.lra_wire.specs.Fields.{is_coded, stated_of, stated_body, body_length_of}
-use Rattle.lra_wire.specs.declared.front.Seen.{Seen}
+use Rattle.lra_wire.specs.declared.front.RequestCursor.{RequestCursor}
 use Rattle.lra_wire.specs.Fronts.{RefusesFront, IsUnfinished, Sees}
-use Rattle.lra_wire.specs.inner.Sought.{LacksBody, StaysOpen}
+use Rattle.lra_wire.specs.inner.RequestParse.{LacksBody, StaysOpen}
 use Rattle.lra_wire.specs.inner.Heads.{IsHeadAt, request_at}
 use Rattle.lra_wire.specs.Request.{IsRequest, HasHead, Request, NeverLawful, RefusesBody, EndsInBody, IsOpenRequest}
 use Rattle.lra_wire.specs.Request.{AwaitsRequest, fields_of}
@@ -87,7 +87,8 @@ length_limit fields size e = go (is_coded fields) (stated_of fields) e
     within true n is f = let same : n ≡ size = cc in omega (arith, same, leb-true n 65536 (sym is))
     within false n is f = absurd cc
 
-    go : (b : Bool) (s : Stated) → ◌≡◌ {A = Result ℕ WireFault} (cond b (Err Chunked) (stated_body s)) (Ok size) → size
+    go : (b : Bool) (s : ContentLength) → ◌≡◌ {A = Result ℕ WireFault} (cond b (Err Chunked) (stated_body s)) (Ok size)
+        → size
         ≤ 65536
     go true s f = absurd cc
     go false Nothing f = let same : 0 ≡ size = cc in omega (arith, same)
@@ -127,7 +128,7 @@ pub sees_nothing : (bytes : List ℕ) → Sees (record { looked = 0; wanted = 0 
 sees_nothing bytes = record { within = omega arith; head = λ z. no_request_yet; body = λ p. absurd (omega (arith, p)) }
 
 -- the findings hold of more bytes
-pub sees_more : (seen : Seen) (bytes more : List ℕ) → Sees seen bytes → Sees seen (bytes ++ more)
+pub sees_more : (seen : RequestCursor) (bytes more : List ℕ) → Sees seen bytes → Sees seen (bytes ++ more)
 sees_more seen bytes more s = record {
   within = omega (arith, s.within, length-append bytes more);
   head = λ z. subst IsOpenRequest (sym (take-append-le seen.looked bytes more s.within)) (s.head z);
@@ -141,7 +142,7 @@ sees_more seen bytes more s = record {
 }
 
 -- a body that isn't whole yet
-pub seen_body : (seen : Seen) (bytes : List ℕ) → Sees seen bytes → 0 < seen.wanted → length bytes < seen.wanted
+pub seen_body : (seen : RequestCursor) (bytes : List ℕ) → Sees seen bytes → 0 < seen.wanted → length bytes < seen.wanted
     → StaysOpen seen.wanted bytes
 seen_body seen bytes s some few =
     let known = s.body some in
@@ -153,7 +154,7 @@ seen_body seen bytes s some few =
     }
 
 -- a head after which no line feed came
-pub seen_head : (seen : Seen) (bytes : List ℕ) → Sees seen bytes → seen.wanted ≡ 0 → length bytes < 8192
+pub seen_head : (seen : RequestCursor) (bytes : List ℕ) → Sees seen bytes → seen.wanted ≡ 0 → length bytes < 8192
     → list_any (λ b. b == 10) (slice_range bytes seen.looked (length bytes)) ≡ false
     → StaysOpen seen.wanted bytes
 seen_head seen bytes s none few feed =
@@ -161,7 +162,7 @@ seen_head seen bytes s none few feed =
     record { awaits = inl open_head; bound = omega (arith, few); head = λ z. open_head }
 
 -- all bytes were read
-pub sees_all : (seen : Seen) (bytes : List ℕ) → Sees seen bytes → StaysOpen seen.wanted bytes
+pub sees_all : (seen : RequestCursor) (bytes : List ℕ) → Sees seen bytes → StaysOpen seen.wanted bytes
     → Sees (record seen { looked = length bytes }) bytes
 sees_all seen bytes s o = record {
   within = omega arith;
@@ -179,7 +180,7 @@ sees_head bytes o = record {
   body = λ p. absurd (omega (arith, p));
 }
 
-pub sees_body : (seen : Seen) (bytes : List ℕ) (wanted : ℕ) → Sees seen bytes → LacksBody wanted bytes
+pub sees_body : (seen : RequestCursor) (bytes : List ℕ) (wanted : ℕ) → Sees seen bytes → LacksBody wanted bytes
     → Sees (record seen { wanted = wanted }) bytes
 sees_body seen bytes wanted s l = record {
   within = s.within;

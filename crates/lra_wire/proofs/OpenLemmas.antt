@@ -9,7 +9,7 @@ use Rattle.httparse.specs.Grammar.{HasNoChunkLine, HasNoSection}
 use Rattle.lra_wire.specs.declared.wanted.Wanted.TheVariants.{Feed}
 use Rattle.lra_wire.specs.declared.fault.WireFault.{WireFault}
 use Rattle.lra_wire.specs.declared.fault.WireFault.TheVariants.{BadHead, Chunked, BadLength, TooLarge, Cut, Io, Memory}
-use Rattle.lra_wire.specs.Coming.{Lasts}
+use Rattle.lra_wire.specs.ResponseParse.{Lasts}
 use Rattle.lra_wire.specs.Response.{IsOpenResponse}
 use Rattle.lra_wire.specs.inner.Wanted.{IsOpenAt}
 use Rattle.lra_wire.proofs.HeadLemmas.{no_response}

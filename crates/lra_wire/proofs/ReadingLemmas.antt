@@ -10,8 +10,8 @@ use Rattle.httparse.specs.Spans.{header_bytes}
 use Rattle.httparse.proofs.GrammarLemmas.{ReadsRequest-append}
 use Rattle.lra_wire.specs.declared.fault.WireFault.{WireFault}
 use Rattle.lra_wire.specs.declared.fault.WireFault.TheVariants.{Chunked, BadLength, TooLarge}
-use Rattle.lra_wire.specs.declared.fields.Stated.{Stated}
-use Rattle.lra_wire.specs.declared.fields.Stated.TheVariants.{Nothing, Length, Malformed}
+use Rattle.lra_wire.specs.declared.fields.ContentLength.{ContentLength}
+use Rattle.lra_wire.specs.declared.fields.ContentLength.TheVariants.{Nothing, Length, Malformed}
 use Rattle.lra_wire.specs.Fields.{is_coded, stated_of, stated_body, body_length_of, lists_close}
 use Rattle.lra_wire.specs.inner.Heads.{IsHeadAt, request_at}
 use Rattle.lra_wire.specs.Request.{IsRequest, Request, told_by, EndsInBody}
@@ -106,7 +106,8 @@ length_fault fields fault e = go (is_coded fields) (stated_of fields) e
     within true n f = absurd (ok_is_no_err f)
     within false n f = inr (inr (sym (same_err f)))
 
-    go : (b : Bool) (s : Stated) → ◌≡◌ {A = Result ℕ WireFault} (cond b (Err Chunked) (stated_body s)) (Err fault)
+    go : (b : Bool) (s : ContentLength) → ◌≡◌ {A = Result ℕ WireFault} (cond b (Err Chunked) (stated_body s))
+        (Err fault)
         → (fault ≡ Chunked) ⊎ ((fault ≡ BadLength) ⊎ (fault ≡ TooLarge))
     go true s f = inl (sym (same_err f))
     go false Nothing f = absurd (ok_is_no_err f)

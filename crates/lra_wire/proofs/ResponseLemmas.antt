@@ -9,8 +9,8 @@ use Rattle.httparse.specs.Grammar.{chunk_size}
 use Rattle.httparse.proofs.GrammarLemmas.{response_prefix_free, ReadsResponse-append}
 use Rattle.lra_wire.specs.declared.fault.WireFault.{WireFault}
 use Rattle.lra_wire.specs.declared.fault.WireFault.TheVariants.{BadHead, Chunked, BadLength, TooLarge, Cut, Io, Memory}
-use Rattle.lra_wire.specs.declared.fields.Stated.{Stated}
-use Rattle.lra_wire.specs.declared.fields.Stated.TheVariants.{Nothing, Length, Malformed}
+use Rattle.lra_wire.specs.declared.fields.ContentLength.{ContentLength}
+use Rattle.lra_wire.specs.declared.fields.ContentLength.TheVariants.{Nothing, Length, Malformed}
 use Rattle.lra_wire.specs.declared.framing.Framing.{Framing}
 use Rattle.lra_wire.specs.declared.framing.Framing.TheVariants.{Sized, Chunks, ToTheEnd}
 use Rattle.lra_wire.specs.declared.response.Head.{Head}
@@ -74,7 +74,7 @@ framing_small code fields framing e = go ((code == 204) || (code == 304)) (value
     within true n fits same = is (Sized n) (leb-true n 65536 (sym fits)) same
     within false n fits same = absurd cc
 
-    stated : (s : Stated) → ◌≡◌ {A = Result Framing WireFault} (stated_framing s) (Ok framing) → IsSmall framing
+    stated : (s : ContentLength) → ◌≡◌ {A = Result Framing WireFault} (stated_framing s) (Ok framing) → IsSmall framing
     stated Nothing same = is ToTheEnd tt same
     stated (Length n) same = within (nat_le n 65536) n refl same
     stated Malformed same = absurd cc
@@ -84,7 +84,7 @@ framing_small code fields framing e = go ((code == 204) || (code == 304)) (value
     coded true same = is Chunks tt same
     coded false same = absurd cc
 
-    go : (b : Bool) (codings : List (List ℕ)) (s : Stated) → ◌≡◌ {A = Result Framing WireFault}
+    go : (b : Bool) (codings : List (List ℕ)) (s : ContentLength) → ◌≡◌ {A = Result Framing WireFault}
         (cond b (Ok (Sized 0)) (coded_framing codings s)) (Ok framing) → IsSmall framing
     go true codings s same = is (Sized 0) (omega arith) same
     go false [] s same = stated s same
@@ -105,7 +105,7 @@ rest_says stream Io other refused = tt
 rest_says stream Memory other refused = tt
 
 -- no framing and no body is refused as a head is
-stated_other : (stated : Stated) → stated_framing stated ≢ Err BadHead
+stated_other : (stated : ContentLength) → stated_framing stated ≢ Err BadHead
 stated_other Nothing e = cc
 stated_other (Length n) e = go (nat_le n 65536) e
   where
@@ -114,7 +114,7 @@ stated_other (Length n) e = go (nat_le n 65536) e
     go false f = cc
 stated_other Malformed e = cc
 
-coded_other : (codings : List (List ℕ)) (stated : Stated) → coded_framing codings stated ≢ Err BadHead
+coded_other : (codings : List (List ℕ)) (stated : ContentLength) → coded_framing codings stated ≢ Err BadHead
 coded_other [] stated e = stated_other stated e
 coded_other (coding ∷ []) stated e = go (is_alike coding (codes "chunked")) e
   where

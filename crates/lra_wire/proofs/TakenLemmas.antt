@@ -9,7 +9,7 @@ use Rattle.lra_wire.specs.declared.fault.WireFault.TheVariants.{BadHead, Chunked
 use Rattle.lra_wire.specs.declared.front.Front.{Front}
 use Rattle.lra_wire.specs.declared.inbox.Inbox.{Inbox}
 use Rattle.lra_wire.specs.declared.response.ResponseRead.{ResponseRead}
-use Rattle.lra_wire.specs.Coming.{Lasts, IsWhole, IsOpen}
+use Rattle.lra_wire.specs.ResponseParse.{Lasts, IsWhole, IsOpen}
 use Rattle.lra_wire.specs.Fronts.{RefusesFront, IsFront, IsFrontSeen}
 use Rattle.lra_wire.specs.Inbox.{kept_bytes, stream_of, IsOutside}
 use Rattle.lra_wire.specs.inner.Growth.{Grows}

@@ -8,8 +8,8 @@ use Rattle.httparse.specs.Ascii.{comma}
 use Rattle.httparse.specs.Grammar.{trim_ows}
 use Rattle.lra_wire.specs.declared.fault.WireFault.{WireFault}
 use Rattle.lra_wire.specs.declared.fault.WireFault.TheVariants.{Chunked, BadLength, TooLarge}
-use Rattle.lra_wire.specs.declared.fields.Stated.{Stated}
-use Rattle.lra_wire.specs.declared.fields.Stated.TheVariants.{Nothing, Length, Malformed}
+use Rattle.lra_wire.specs.declared.fields.ContentLength.{ContentLength}
+use Rattle.lra_wire.specs.declared.fields.ContentLength.TheVariants.{Nothing, Length, Malformed}
 
 -- Two texts are equal but for the case of their letters (RFC 9110, section 5.1).
 abbrev pub is_alike : List ℕ → List ℕ → Bool
@@ -29,18 +29,18 @@ abbrev pub has_field : List ℕ → List (List ℕ × List ℕ) → Bool
 has_field name fields = nat_lt 0 (length (values_of name fields))
 
 -- A number of a Content-Length: 1 to 19 digits (RFC 9110, section 8.6; that many fit 64 bits).
-abbrev pub spelled_length : List ℕ → Stated
+abbrev pub spelled_length : List ℕ → ContentLength
 spelled_length value = if nat_lt 0 (length value) && nat_le (length value) 19
     && list_all is_ascii_digit value then Length (digits_value 10 value) else Malformed
 
 -- the length that the values of Content-Length state: there may be one value, and not even the same one twice
-abbrev pub stated_by : List (List ℕ) → Stated
+abbrev pub stated_by : List (List ℕ) → ContentLength
 stated_by [] = Nothing
 stated_by (value ∷ []) = spelled_length value
 stated_by (value ∷ other ∷ values) = Malformed
 
 -- the length of the body that a head states
-abbrev pub stated_of : List (List ℕ × List ℕ) → Stated
+abbrev pub stated_of : List (List ℕ × List ℕ) → ContentLength
 stated_of fields = stated_by (values_of (codes "content-length") fields)
 
 -- A head has a coding or an expectation, which isn't supported (this project's choice; RFC 9110, sections 8.4 and
@@ -54,7 +54,7 @@ abbrev pub limited : ℕ → Result ℕ WireFault
 limited n = if nat_le n 65536 then Ok n else Err TooLarge
 
 -- how long a request's body is: without a Content-Length it is empty (RFC 9112, section 6.3)
-abbrev pub stated_body : Stated → Result ℕ WireFault
+abbrev pub stated_body : ContentLength → Result ℕ WireFault
 stated_body Nothing = Ok 0
 stated_body (Length n) = limited n
 stated_body Malformed = Err BadLength

@@ -4,7 +4,7 @@ use Rattle.std.specs.Prelude.{Err}
 use Rattle.lra_wire.specs.declared.fault.WireFault.{WireFault}
 use Rattle.lra_wire.specs.declared.fault.WireFault.TheVariants.{BadHead, Chunked, BadLength, TooLarge, Cut, Io, Memory}
 use Rattle.lra_wire.specs.declared.front.Front.{Front}
-use Rattle.lra_wire.specs.declared.front.Seen.{Seen}
+use Rattle.lra_wire.specs.declared.front.RequestCursor.{RequestCursor}
 use Rattle.lra_wire.specs.Request.{IsRequest, RefusesRequest, EndsInBody, IsOpenRequest, AwaitsRequest, request_of}
 
 -- Why the bytes begin with no request, whatever follows them: a fault of these bytes and not of the stream's end, or a
@@ -32,7 +32,7 @@ IsFront bytes (Err fault) = RefusesFront bytes fault
 
 -- The findings hold of the bytes. Either the head isn't whole in the bytes that were read. Or the bytes begin with a
 -- whole head, and its body isn't whole before there are so many bytes, which are no more than the largest request has.
-pub record Sees (seen : Seen) (bytes : List ℕ) : Type 0 where
+pub record Sees (seen : RequestCursor) (bytes : List ℕ) : Type 0 where
   pub within : seen.looked ≤ length bytes
   pub head : seen.wanted ≡ 0 → IsOpenRequest (take seen.looked bytes)
   pub body : 0 < seen.wanted → (seen.wanted ≤ 73728) × ((more : List ℕ) → length (bytes ++ more) < seen.wanted

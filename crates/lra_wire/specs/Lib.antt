@@ -5,8 +5,8 @@ pub mod Request
 pub mod Streams
 pub mod Writing
 pub mod Chunks
-pub mod Coming
+pub mod ResponseParse
 pub mod Response
-pub mod Seen
+pub mod RequestCursor
 pub mod Requests
 pub mod inner

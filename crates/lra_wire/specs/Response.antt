@@ -7,8 +7,8 @@ use Rattle.httparse.specs.Grammar.{MayBecomeResponse, status_code}
 use Rattle.httparse.specs.Spans.{name_and_value}
 use Rattle.lra_wire.specs.declared.fault.WireFault.{WireFault}
 use Rattle.lra_wire.specs.declared.fault.WireFault.TheVariants.{BadHead, Chunked, BadLength, TooLarge, Cut, Io, Memory}
-use Rattle.lra_wire.specs.declared.fields.Stated.{Stated}
-use Rattle.lra_wire.specs.declared.fields.Stated.TheVariants.{Nothing, Length, Malformed}
+use Rattle.lra_wire.specs.declared.fields.ContentLength.{ContentLength}
+use Rattle.lra_wire.specs.declared.fields.ContentLength.TheVariants.{Nothing, Length, Malformed}
 use Rattle.lra_wire.specs.declared.framing.Framing.{Framing}
 use Rattle.lra_wire.specs.declared.framing.Framing.TheVariants.{Sized, Chunks, ToTheEnd}
 use Rattle.lra_wire.specs.Chunks.{IsChunked, RefusesChunks, AwaitsChunks}
@@ -58,13 +58,13 @@ pub record HasFinal (bytes : List ℕ) (head : ResponseHead) (rest : List ℕ) :
   pub status : is_interim (status_code head) ≡ false
 
 -- a body of a stated length, of at most 65,536 bytes, or up to the end of the stream
-abbrev pub stated_framing : Stated → Result Framing WireFault
+abbrev pub stated_framing : ContentLength → Result Framing WireFault
 stated_framing Nothing = Ok ToTheEnd
 stated_framing (Length n) = if nat_le n 65536 then Ok (Sized n) else Err TooLarge
 stated_framing Malformed = Err BadLength
 
 -- one transfer coding, which has to be `chunked`, or else what Content-Length says
-abbrev pub coded_framing : List (List ℕ) → Stated → Result Framing WireFault
+abbrev pub coded_framing : List (List ℕ) → ContentLength → Result Framing WireFault
 coded_framing [] stated = stated_framing stated
 coded_framing (coding ∷ []) stated = if is_alike coding (codes "chunked") then Ok Chunks else Err Chunked
 coded_framing (coding ∷ other ∷ codings) stated = Err Chunked

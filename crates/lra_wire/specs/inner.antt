@@ -2,7 +2,7 @@
 pub mod Growth
 pub mod Fields
 pub mod Heads
-pub mod Sought
+pub mod RequestParse
 pub mod Wanted
 pub mod Chunked
 pub mod Parts

@@ -42,7 +42,7 @@ impl<'b> Named<'b> {
 
 /// Value of `Content-Length`.
 #[derive(Clone, Copy)]
-pub(crate) enum Stated {
+pub(crate) enum ContentLength {
     Nothing,
     Length(u64),
     Malformed,
@@ -85,25 +85,25 @@ pub(crate) fn is_alike(a: &[u8], b: &[u8]) -> bool
 }
 
 /// Returns the length that `Content-Length` states, if it states one (RFC 9110, section 8.6).
-pub(crate) fn stated_length(bytes: &[u8], fields: &[HeaderSpan]) -> Stated
+pub(crate) fn stated_length(bytes: &[u8], fields: &[HeaderSpan]) -> ContentLength
     requires { All (IsHeaderWithin (length bytes.now)) fields.now }
     ensures { result ≡ stated_of (map (header_bytes bytes.now) fields.now) }
 {
     match lookup(bytes, fields, b"content-length") {
-        Named::Absent => Stated::Nothing,
+        Named::Absent => ContentLength::Nothing,
         Named::Once(value) => spelled_length(value),
-        Named::Several => Stated::Malformed,
+        Named::Several => ContentLength::Malformed,
     }
 }
 
 /// Returns the number that 1 to 19 decimal digits spell, or `Malformed` for any other text.
-fn spelled_length(value: &[u8]) -> Stated
+fn spelled_length(value: &[u8]) -> ContentLength
     ensures { result ≡ spelled_length value.now }
 {
     if value.is_empty() || value.len() > MAX_DIGITS || !is_digits(value) {
-        return Stated::Malformed;
+        return ContentLength::Malformed;
     }
-    Stated::Length(number(value))
+    ContentLength::Length(number(value))
 }
 
 fn is_digits(bytes: &[u8]) -> bool

@@ -4,7 +4,7 @@ ghost use Rattle.httparse.specs.Spans.{IsHeaderWithin, header_bytes};
 ghost use Rattle.lra_wire.specs.Response.{framing_of, stated_framing};
 
 use crate::fault::WireFault;
-use crate::fields::{Named, Stated, is_alike, lookup, stated_length};
+use crate::fields::{ContentLength, Named, is_alike, lookup, stated_length};
 use crate::request::MAX_BODY;
 use httparse::spans::HeaderSpan;
 
@@ -44,13 +44,15 @@ pub(crate) fn framing_of(
     }
 }
 
-fn stated_framing(stated: Stated) -> Result<Framing, WireFault>
+fn stated_framing(stated: ContentLength) -> Result<Framing, WireFault>
     ensures { result ≡ stated_framing stated }
 {
     match stated {
-        Stated::Nothing => Ok(Framing::ToTheEnd),
-        Stated::Length(length) if length <= MAX_BODY as u64 => Ok(Framing::Sized(length as usize)),
-        Stated::Length(_) => Err(WireFault::TooLarge),
-        Stated::Malformed => Err(WireFault::BadLength),
+        ContentLength::Nothing => Ok(Framing::ToTheEnd),
+        ContentLength::Length(length) if length <= MAX_BODY as u64 => Ok(Framing::Sized(
+            length as usize,
+        )),
+        ContentLength::Length(_) => Err(WireFault::TooLarge),
+        ContentLength::Malformed => Err(WireFault::BadLength),
     }
 }

@@ -2,9 +2,9 @@
 ghost use Rattle.std.specs.Prelude.{◌≡◌, ◌≢◌, ℕ, List, ◌++◌, true};
 ghost use Rattle.lra_wire.specs.declared.fault.WireFault.{WireFault};
 ghost use Rattle.lra_wire.specs.declared.fault.WireFault.TheVariants.{Memory};
-ghost use Rattle.lra_wire.specs.declared.front.Seen.{Seen};
+ghost use Rattle.lra_wire.specs.declared.front.RequestCursor.{RequestCursor};
 ghost use Rattle.lra_wire.specs.Fronts.{RefusesFront, IsUnfinished, IsFront, Sees, IsFrontSeen, EndsWith};
-ghost use Rattle.lra_wire.specs.inner.Sought.{IsSought, StaysOpen};
+ghost use Rattle.lra_wire.specs.inner.RequestParse.{IsSought, StaysOpen};
 ghost use Rattle.lra_wire.specs.Request.{Request, IsRequest};
 
 use crate::fault::WireFault;
@@ -22,7 +22,7 @@ pub struct Front {
 
 /// Request that bytes begin with: whole, or unfinished in its head or its body.
 #[derive(Drop)]
-enum Sought {
+enum RequestParse {
     Whole(Front),
     OpenHead,
     /// Whole head, and the number of bytes that there are once the body is whole.
@@ -31,18 +31,18 @@ enum Sought {
 
 /// Findings on bytes that hold no whole request, so that the bytes needn't be read anew whenever a piece comes.
 #[derive(Clone, Copy)]
-pub struct Seen {
+pub struct RequestCursor {
     looked: usize,
     /// Number of bytes that there are once the body is whole, or 0 where the head isn't whole.
     wanted: usize,
 }
 
-impl Seen {
+impl RequestCursor {
     /// Makes findings on no bytes.
-    pub fn nothing() -> Seen
+    pub fn nothing() -> RequestCursor
         ensures { (bytes : List ℕ) → Sees result bytes }
     {
-        Seen {
+        RequestCursor {
             looked: 0,
             wanted: 0,
         }
@@ -63,21 +63,21 @@ impl Seen {
     }
 }
 
-fn find_front(alloc: Global, bytes: &[u8]) -> Result<Sought, WireFault>
+fn find_front(alloc: Global, bytes: &[u8]) -> Result<RequestParse, WireFault>
     ensures { IsSought bytes.now result }
 {
     let mut headers = [EMPTY_HEADER_SPAN; MAX_FIELDS];
     let Some(head) = head_at(bytes, &mut headers)? else {
-        return Ok(Sought::OpenHead);
+        return Ok(RequestParse::OpenHead);
     };
     let size = body_length_at(bytes, &headers, &head)?;
     let len = head.len + size;
     if bytes.len() < len {
-        return Ok(Sought::OpenBody(len));
+        return Ok(RequestParse::OpenBody(len));
     }
     let mut request = request_at(alloc, bytes, &headers, &head)?;
     request.body = Vec::from_slice(alloc, &bytes[head.len..len])?;
-    Ok(Sought::Whole(Front { request, len }))
+    Ok(RequestParse::Whole(Front { request, len }))
 }
 
 /// Returns the request that the bytes which came so far begin with, or none where more are wanted. Its faults are those
@@ -86,9 +86,9 @@ pub fn request_front(alloc: Global, bytes: &[u8]) -> Result<Option<Front>, WireF
     ensures { IsFront bytes.now result }
 {
     match find_front(alloc, bytes) {
-        Ok(Sought::Whole(front)) => Ok(Some(front)),
-        Ok(Sought::OpenHead) => Ok(None),
-        Ok(Sought::OpenBody(_)) => Ok(None),
+        Ok(RequestParse::Whole(front)) => Ok(Some(front)),
+        Ok(RequestParse::OpenHead) => Ok(None),
+        Ok(RequestParse::OpenBody(_)) => Ok(None),
         Err(fault) => Err(fault),
     }
 }
@@ -98,7 +98,7 @@ pub fn request_front(alloc: Global, bytes: &[u8]) -> Result<Option<Front>, WireF
 pub fn request_front_seen(
     alloc: Global,
     bytes: &[u8],
-    seen: &mut Seen,
+    seen: &mut RequestCursor,
 ) -> Result<Option<Front>, WireFault>
     requires { Sees seen.old bytes.now }
     ensures front { IsFrontSeen bytes.now result }
@@ -109,13 +109,13 @@ pub fn request_front_seen(
         return Ok(None);
     }
     match find_front(alloc, bytes) {
-        Ok(Sought::Whole(front)) => Ok(Some(front)),
-        Ok(Sought::OpenHead) => {
+        Ok(RequestParse::Whole(front)) => Ok(Some(front)),
+        Ok(RequestParse::OpenHead) => {
             seen.looked = bytes.len();
             seen.wanted = 0;
             Ok(None)
         }
-        Ok(Sought::OpenBody(wanted)) => {
+        Ok(RequestParse::OpenBody(wanted)) => {
             seen.wanted = wanted;
             Ok(None)
         }
@@ -142,7 +142,7 @@ pub fn one_front()
         → IsRequest bytes request rest → IsRequest (bytes ++ more) request (rest ++ more) }
     ensures one { (bytes : List ℕ) (request other : Request) (rest tail : List ℕ)
         → IsRequest bytes request rest → IsRequest bytes other tail → (request ≡ other) × (rest ≡ tail) }
-    ensures seen { (seen : Seen) (bytes more : List ℕ) → Sees seen bytes → Sees seen (bytes ++ more) }
+    ensures seen { (seen : RequestCursor) (bytes more : List ℕ) → Sees seen bytes → Sees seen (bytes ++ more) }
     ensures refused { (bytes more : List ℕ) (fault : WireFault)
         → RefusesFront bytes fault → RefusesFront (bytes ++ more) fault }
 

@@ -6,7 +6,6 @@
 #![tactic(auto)]
 
 mod chunks;
-mod coming;
 mod fault;
 mod fields;
 mod framing;
@@ -15,16 +14,19 @@ mod head;
 mod inbox;
 mod request;
 mod response;
+mod response_parse;
 mod told;
 mod wanted;
 mod write;
 
 pub use chunks::MAX_RESPONSE;
-pub use coming::{Coming, SeenResponse, response_front, response_front_seen, seen_stays};
 pub use fault::WireFault;
-pub use front::{Front, Seen, end_fault, one_front, request_front, request_front_seen};
+pub use front::{Front, RequestCursor, end_fault, one_front, request_front, request_front_seen};
 pub use inbox::Inbox;
 pub use request::{RequestRead, one_reading, read_request};
 pub use response::{ResponseRead, read_response};
+pub use response_parse::{
+    ResponseCursor, ResponseParse, response_front, response_front_seen, seen_stays,
+};
 pub use told::RequestFields;
 pub use write::{ReplyWrite, RequestWrite, write_request, write_response, write_response_in};

@@ -32,8 +32,8 @@ ghost use Rattle.lra_wire.specs.Requests.{Requests, EndsAlike};
 ghost use Rattle.lra_wire.specs.Streams.{IfBothKnown};
 
 use crate::fault::WireFault;
-use crate::fields::{Named, Stated, has, lists_close, lookup, stated_length};
-use crate::front::{Seen, end_fault, request_front, request_front_seen};
+use crate::fields::{ContentLength, Named, has, lists_close, lookup, stated_length};
+use crate::front::{RequestCursor, end_fault, request_front, request_front_seen};
 use crate::head::{MAX_FIELDS, MAX_HEAD};
 use crate::inbox::Inbox;
 use crate::told::{RequestFields, fields_at};
@@ -109,7 +109,7 @@ fn next_request<R: Read + Drop>(
     ensures next { NextRequest R.remaining inbox.old inbox.new result }
     ensures asks { AsksAt AwaitsRequest inbox.old inbox.new }
 {
-    let mut seen = Seen::nothing();
+    let mut seen = RequestCursor::nothing();
     loop {
         if let Some(front) = request_front_seen(alloc, inbox.bytes(), &mut seen)? {
             inbox.take(front.len);
@@ -196,10 +196,10 @@ fn body_length(bytes: &[u8], fields: &[HeaderSpan]) -> Result<usize, WireFault>
         return Err(WireFault::Chunked);
     }
     match stated_length(bytes, fields) {
-        Stated::Nothing => Ok(0),
-        Stated::Length(length) if length <= MAX_BODY as u64 => Ok(length as usize),
-        Stated::Length(_) => Err(WireFault::TooLarge),
-        Stated::Malformed => Err(WireFault::BadLength),
+        ContentLength::Nothing => Ok(0),
+        ContentLength::Length(length) if length <= MAX_BODY as u64 => Ok(length as usize),
+        ContentLength::Length(_) => Err(WireFault::TooLarge),
+        ContentLength::Malformed => Err(WireFault::BadLength),
     }
 }
 

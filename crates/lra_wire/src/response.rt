@@ -6,11 +6,11 @@ ghost use Rattle.lra_wire.specs.inner.Parts.{FindsResponse};
 ghost use Rattle.lra_wire.specs.inner.Reading.{NextResponse};
 ghost use Rattle.lra_wire.specs.Streams.{IfBothKnown};
 
-use crate::coming::{Coming, SeenResponse, response_at_end, response_front_seen};
 use crate::fault::WireFault;
 use crate::framing::{Framing, framing_of};
 use crate::head::{MAX_FIELDS, MAX_HEAD};
 use crate::inbox::Inbox;
+use crate::response_parse::{ResponseCursor, ResponseParse, response_at_end, response_front_seen};
 use httparse::Status;
 use httparse::spans::{EMPTY_HEADER_SPAN, parse_response};
 use std::alloc::Global;
@@ -72,14 +72,14 @@ fn next_response<R: Read + Drop>(
     ensures next { NextResponse R.remaining inbox.old inbox.new result }
     ensures asks { AsksAt AwaitsResponse inbox.old inbox.new }
 {
-    let mut seen = SeenResponse::nothing(alloc);
+    let mut seen = ResponseCursor::nothing(alloc);
     loop {
         match response_front_seen(alloc, inbox.bytes(), &mut seen)? {
-            Coming::Whole(response, len) => {
+            ResponseParse::Whole(response, len) => {
                 inbox.take(len);
                 return Ok(response);
             }
-            Coming::Open(_) => {}
+            ResponseParse::Open(_) => {}
         }
         if !inbox.fill()? {
             let (response, len) = response_at_end(alloc, inbox.bytes(), &mut seen)?;

@@ -70,7 +70,7 @@ module _ {K : Type 0} (gives : Sight → ℕ → Order → Result Told CounterFa
   -- ---- one request
 
   keeps_responding : (v w : Sight) (moment : ℕ) (r : _) (a : Answer) → Responds gives v moment r w a → Keeps v w
-  keeps_responding v w moment r a (Ok wish, asks, h) = keeps_given v w moment h.order h.reply
+  keeps_responding v w moment r a (Ok api_request, asks, h) = keeps_given v w moment h.order h.reply
       (law v w moment h.order h.reply h.given)
   keeps_responding v w moment r a (Err d, asks, h) = keeps_still v w h.1
 

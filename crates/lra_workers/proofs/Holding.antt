@@ -21,17 +21,17 @@ use Rattle.lra_commands.specs.Errands.{Asking}
 use Rattle.lra_commands.specs.Given.{ask_carried, IsOfAsk}
 use Rattle.lra_commands.specs.Calls.{Call}
 use Rattle.lra_commands.specs.declared.refusal.Refusal.TheVariants.{NotAsked}
-use Rattle.lra_courier.specs.Carriages.{Handed, Places, AreSame, AreFree, Gains}
+use Rattle.lra_courier.specs.CallbackPools.{Handed, Places, AreSame, AreFree, Gains}
 use Rattle.lra_office.specs.declared.fault.OfficeRefusal.TheVariants as office
 use Rattle.lra_office.specs.declared.fault.OfficeRefusal.{OfficeRefusal}
 use Rattle.lra_office.specs.Orders.{IsNotGiven, IsLookedAhead}
 use Rattle.lra_workers.specs.declared.worker.WorkerEnd.{WorkerEnd}
 use Rattle.lra_workers.specs.declared.worker.WorkerEnd.TheVariants.{Ended, Held, Refused}
 use Rattle.lra_workers.specs.Work.{Post, Does, Fails, WorksIn, Works, WorksUpTo}
-use Rattle.lra_workers.specs.Carrying.{GoesOn, CarriesIn, Carries, EndsCarrying}
+use Rattle.lra_workers.specs.CallbackExchange.{GoesOn, CarriesIn, Carries, EndsCallbackWorker}
 use Rattle.lra_workers.specs.Handed.{IsHanded, AreHanded}
 use Rattle.lra_workers.proofs.Working.{works_none}
-use Rattle.lra_workers.proofs.CarryingOn.{foretold_seen, carries_none}
+use Rattle.lra_workers.proofs.CallbackExchangeOn.{foretold_seen, carries_none}
 
 -- ---- an ask in a history is one in each that goes on from it
 
@@ -150,7 +150,7 @@ module _ {O K : Type 0} (setting : O → Setting) (gives : ℕ → AskKind → O
     pub carries_seen : (s t : Post O K) → Carries setting gives tells s t → IsPrefix s.view.seen t.view.seen
     carries_seen s t h = carried_in h.0 s t h.1
 
-    ended_seen : (s t : Post O K) (end : WorkerEnd) → EndsCarrying setting gives tells s end t
+    ended_seen : (s t : Post O K) (end : WorkerEnd) → EndsCallbackWorker setting gives tells s end t
         → IsPrefix s.view.seen t.view.seen
     ended_seen s t Ended h = carries_seen s t h
     ended_seen s t Held h = carries_seen s t h
@@ -162,7 +162,7 @@ module _ {O K : Type 0} (setting : O → Setting) (gives : ℕ → AskKind → O
     -- a callback worker has seen all that it had seen before, however its work ended
     pub carried : {A : Type 0} (s t : Post O K) (r : Result A WorkerEnd)
         → ((x : Post O K) → Carries setting gives tells x s → MatchResult r (λ _. Carries setting gives tells x t)
-        (λ end. EndsCarrying setting gives tells x end t)) → IsPrefix s.view.seen t.view.seen
+        (λ end. EndsCallbackWorker setting gives tells x end t)) → IsPrefix s.view.seen t.view.seen
     carried s t (Ok y) h = carries_seen s t (h s (carries_none setting gives tells s))
     carried s t (Err end) h = ended_seen s t end (h s (carries_none setting gives tells s))
 

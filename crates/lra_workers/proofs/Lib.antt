@@ -2,4 +2,4 @@ pub mod Answering
 pub mod Working
 pub mod Refusing
 pub mod Holding
-pub mod CarryingOn
+pub mod CallbackExchangeOn

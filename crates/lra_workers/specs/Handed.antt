@@ -3,7 +3,7 @@ use Rattle.std.specs.Prelude.{◌≡◌, ℕ, Bool, Some, IsTrue}
 use Rattle.lra_model.specs.History.{History}
 use Rattle.lra_commands.specs.Errands.{Asking}
 use Rattle.lra_commands.specs.Given.{IsOfAsk}
-use Rattle.lra_courier.specs.Carriages.{Handed, Places}
+use Rattle.lra_courier.specs.CallbackPools.{Handed, Places}
 
 -- so many bytes of the journal cover a whole history with an errand's ask
 pub record IsTold {O : Type 0} (covers : O → History → ℕ → Bool) (handed : Handed) : Type 0 where

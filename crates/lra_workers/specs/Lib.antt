@@ -1,4 +1,4 @@
 pub mod Connections
 pub mod Work
-pub mod Carrying
+pub mod CallbackExchange
 pub mod Handed

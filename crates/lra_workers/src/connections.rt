@@ -8,7 +8,7 @@ ghost use Rattle.lra_office.specs.Stops.{KeepsInTurn};
 ghost use Rattle.lra_office.specs.Windows.{IsOfficeOf};
 ghost use Rattle.lra_workers.specs.Connections.{clerk_sight, Connection, EndsServing};
 
-use crate::door::{Door, Line};
+use crate::acceptor::{Acceptor, Line};
 use lra_front::{Clock, serve_stream};
 use lra_office::{Clerk, OfficeOf, Serving, WhichLock, Window};
 use std::alloc::Global;
@@ -27,9 +27,9 @@ pub enum ServeEnd {
 
 /// Half of a connection that is read.
 #[derive(Drop)]
-struct Ear<'a, L>(&'a L);
+struct ReadHalf<'a, L>(&'a L);
 
-impl<L: Line> Read for Ear<'_, L> {
+impl<L: Line> Read for ReadHalf<'_, L> {
     fn read(&mut self, buffer: &mut [u8]) -> io::Result<usize> {
         self.0.read(buffer)
     }
@@ -37,9 +37,9 @@ impl<L: Line> Read for Ear<'_, L> {
 
 /// Half of a connection that is written.
 #[derive(Drop)]
-struct Mouth<'a, L>(&'a L);
+struct WriteHalf<'a, L>(&'a L);
 
-impl<L: Line> Write for Mouth<'_, L> {
+impl<L: Line> Write for WriteHalf<'_, L> {
     fn write(&mut self, bytes: &[u8]) -> io::Result<usize> {
         self.0.write(bytes)
     }
@@ -66,17 +66,17 @@ fn answer<V: Serving, R: Wait, L: Line, K: Clock, Q: WhichLock>(
         (clerk_sight V.setting clerk) clock.old (clerk_sight V.setting result) clock.new }
 {
     let mut window: Window<'_, V, R, Q> = Window::new(rt, office, clerk);
-    let mut mouth = Mouth(line);
-    serve_stream(alloc, Ear(line), &mut mouth, &mut window, clock);
+    let mut write_half = WriteHalf(line);
+    serve_stream(alloc, ReadHalf(line), &mut write_half, &mut window, clock);
     window.into_clerk()
 }
 
 /// Answers so many connections as a clerk of an office, one after another, each as long as it lasts. Ends before that
 /// if no connection can be accepted.
-pub fn serve_connections<V: Serving, R: Wait, D: Door, K: Clock>(
+pub fn serve_connections<V: Serving, R: Wait, D: Acceptor, K: Clock>(
     rt: &R,
     alloc: Global,
-    door: &D,
+    acceptor: &D,
     office: &OfficeOf<V>,
     clerk: Clerk<V>,
     clock: &mut K,
@@ -93,7 +93,7 @@ pub fn serve_connections<V: Serving, R: Wait, D: Door, K: Clock>(
 {
     let mut clerk = clerk;
     for _answered in 0..count {
-        let Ok(line) = door.open(rt) else {
+        let Ok(line) = acceptor.open(rt) else {
             return (clerk, ServeEnd::Io);
         };
         clerk = answer::<V, R, D::Line, K, Brand>(rt, alloc, &line, office, clerk, clock);

@@ -2,17 +2,17 @@
 use Rattle.std.specs.Prelude.{◌≡◌, ℕ, List, Option, Some, None, MatchOption}
 use Rattle.std.proofs.Common.{ap}
 use Rattle.lra_wire.specs.Request.{Request}
-use Rattle.lra_front.specs.declared.denial.Denial.{Denial}
-use Rattle.lra_steps.specs.declared.responder.Answered.{Answered}
-use Rattle.lra_admission.specs.Admitting.{Rules, denial_of}
+use Rattle.lra_front.specs.declared.api_error.ApiError.{ApiError}
+use Rattle.lra_steps.specs.declared.handler.Answered.{Answered}
+use Rattle.lra_admission.specs.Admitting.{Rules, api_error_of}
 use Rattle.lra_admission.specs.Serving.{Guard, Denies, Responds}
 
 module _ {S : Type 0} (looks : Rules → Rules → Type 0) (responds : S → ℕ → Request → Answered → S → Type 0)
     (base_of : S → List ℕ)
     (stays : (before after : S) (moment : ℕ) (request : Request) (answered : Answered)
     → responds before moment request answered after → base_of after ≡ base_of before) where
-  done_stays : (before after : S) (moment : ℕ) (request : Request) (answered : Answered) (denial : Option Denial)
-      → MatchOption denial (responds before moment request answered after) (Denies before answered after)
+  done_stays : (before after : S) (moment : ℕ) (request : Request) (answered : Answered) (api_error : Option ApiError)
+      → MatchOption api_error (responds before moment request answered after) (Denies before answered after)
       → base_of after ≡ base_of before
   done_stays before after moment request answered None h = stays before after moment request answered h
   done_stays before after moment request answered (Some d) h = ap base_of h.unchanged
@@ -20,4 +20,4 @@ module _ {S : Type 0} (looks : Rules → Rules → Type 0) (responds : S → ℕ
   pub base_stays : (before after : Guard S) (moment : ℕ) (request : Request) (answered : Answered)
       → Responds looks responds before moment request answered after → base_of after.inner ≡ base_of before.inner
   base_stays before after moment request answered h =
-      done_stays before.inner after.inner moment request answered (denial_of after.rules request.fields) h.done
+      done_stays before.inner after.inner moment request answered (api_error_of after.rules request.fields) h.done

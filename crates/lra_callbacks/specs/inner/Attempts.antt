@@ -19,8 +19,8 @@ pub record IsOfSame (old new : Carried) : Type 0 where
 
 -- the bytes that a stream gained are just the bytes of the request that count as handed out
 abbrev pub HandsOut : Carried → Carried → Option (List ℕ) → Option (List ℕ) → Type 0
-HandsOut old new before after = (count : ℕ) × (new.gone ≡ old.gone + count)
-    × Appends before after (take count (drop old.gone old.request))
+HandsOut old new before after = (count : ℕ) × (new.advance_by ≡ old.advance_by + count)
+    × Appends before after (take count (drop old.advance_by old.request))
 
 -- the bytes that are taken of a response are just those that a stream gave; none are taken if memory is refused for
 -- them

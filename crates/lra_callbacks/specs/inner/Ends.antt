@@ -5,12 +5,12 @@ use Rattle.lra_outcomes.specs.declared.reply.Reply.{Reply}
 use Rattle.lra_callbacks.specs.declared.attempt.Flight.{Flight}
 use Rattle.lra_callbacks.specs.declared.replies.End.{End}
 use Rattle.lra_callbacks.specs.declared.replies.End.TheVariants as end
-use Rattle.lra_callbacks.specs.declared.share.Patience.{Patience}
+use Rattle.lra_callbacks.specs.declared.worker_quota.TimeOuts.{TimeOuts}
 use Rattle.lra_callbacks.specs.inner.Replies.{reply_of}
 
 -- the time limit that has passed: that to connect until there is a connection, and then that for the whole reply
-abbrev pub limit_of : Bool → Patience → ℕ
-limit_of is_connected patience = if is_connected then patience.reply else patience.connect
+abbrev pub limit_of : Bool → TimeOuts → ℕ
+limit_of is_connected time_outs = if is_connected then time_outs.reply else time_outs.connect
 
 -- a callback with this end had no socket from the system, which says nothing of its member
 abbrev pub has_no_socket : End → Bool
@@ -21,4 +21,5 @@ has_no_socket _ = false
 abbrev pub Replies : End → Option Flight → Option Reply → Type 0
 Replies end None told = told ≡ reply_of end None None
 Replies end (Some flight) told =
-    (code : Option ℕ) × IfSome code (IsCoded flight.carrying) × (told ≡ reply_of end flight.carrying.came code)
+    (code : Option ℕ) × IfSome code (IsCoded flight.callback_exchange)
+    × (told ≡ reply_of end flight.callback_exchange.came code)

@@ -1,6 +1,6 @@
 -- What the fields of a callback exchange mean.
-use Rattle.lra_wire.specs.Seen.{SeesResponse}
-use Rattle.lra_courier.specs.declared.carrying.Carrying.TheInside.{Inside}
+use Rattle.lra_wire.specs.RequestCursor.{SeesResponse}
+use Rattle.lra_courier.specs.declared.callback_exchange.CallbackExchange.TheInside.{Inside}
 use Rattle.lra_courier.specs.Carried.{Carried, IsCarried}
 
 abbrev pub carried_of : Inside → Carried
@@ -8,7 +8,7 @@ carried_of c = record {
   kind = c.asked.kind;
   direction = c.asked.direction;
   request = c.request.items;
-  gone = c.gone;
+  advance_by = c.advance_by;
   taken = c.kept.items;
   closed = c.closed;
   failed = c.failed;

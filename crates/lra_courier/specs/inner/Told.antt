@@ -6,7 +6,7 @@ use Rattle.lra_model.specs.declared.asks.Direction.{Direction}
 use Rattle.lra_model.specs.declared.asks.Outcome.{Outcome}
 use Rattle.lra_wire.specs.declared.fault.WireFault.{WireFault}
 use Rattle.lra_wire.specs.declared.fault.WireFault.TheVariants.{Io, Memory}
-use Rattle.lra_wire.specs.Coming.{Lasts}
+use Rattle.lra_wire.specs.ResponseParse.{Lasts}
 use Rattle.lra_wire.specs.Response.{RefusesResponse, AwaitsResponse}
 use Rattle.lra_courier.specs.Carried.{IsReply, Replies}
 

@@ -4,13 +4,13 @@ use Rattle.lra_ids.specs.Identifiers.{IsSpelling}
 use Rattle.lra_commands.specs.declared.refusal.Refusal.TheVariants as refusal
 use Rattle.lra_front.specs.declared.operation.Operation.{Operation}
 use Rattle.lra_front.specs.declared.operation.Operation.TheVariants as operation
-use Rattle.lra_front.specs.declared.denial.Denial.{Denial}
-use Rattle.lra_front.specs.declared.denial.Denial.TheVariants.{Refused}
-use Rattle.lra_front.specs.declared.wish.Wish.{Wish}
+use Rattle.lra_front.specs.declared.api_error.ApiError.{ApiError}
+use Rattle.lra_front.specs.declared.api_error.ApiError.TheVariants.{Refused}
+use Rattle.lra_front.specs.declared.api_request.ApiRequest.{ApiRequest}
 use Rattle.lra_front.specs.Bodies.{reads_body}
 
 -- the number that a text spells, or that API error where it spells none
-abbrev pub IsFound : (ℕ → List ℕ) → List ℕ → Denial → Result ℕ Denial → Type 0
+abbrev pub IsFound : (ℕ → List ℕ) → List ℕ → ApiError → Result ℕ ApiError → Type 0
 IsFound spelled text none (Ok n) = IsSpelling spelled text n
 IsFound spelled text none (Err d) = ((n : ℕ) → ¬ (IsSpelling spelled text n)) × (d ≡ none)
 
@@ -28,5 +28,5 @@ is_of_member operation.Report = true
 is_of_member _ = false
 
 -- memory was refused, at an operation that reads its body; or this holds
-abbrev pub OrMemory : Operation → (Result Wish Denial → Type 0) → Result Wish Denial → Type 0
+abbrev pub OrMemory : Operation → (Result ApiRequest ApiError → Type 0) → Result ApiRequest ApiError → Type 0
 OrMemory r P w = ((w ≡ Err (Refused refusal.Memory)) × (reads_body r ≡ true)) ⊎ P w

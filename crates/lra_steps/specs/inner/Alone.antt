@@ -8,7 +8,7 @@ use Rattle.lra_commands.specs.declared.counter.CounterFault.{CounterFault}
 use Rattle.lra_commands.specs.Counters.{Sight, KeepsHistory}
 use Rattle.lra_front.specs.declared.answer.Answer.{Answer}
 use Rattle.lra_front.specs.Serving.{Responds}
-use Rattle.lra_steps.specs.declared.responder.Answered.{Answered}
+use Rattle.lra_steps.specs.declared.handler.Answered.{Answered}
 use Rattle.lra_steps.specs.Positions.{AnswersOrdered}
 use Rattle.lra_steps.specs.Pieces.{AnswersAlone}
 

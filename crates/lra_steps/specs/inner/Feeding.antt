@@ -2,7 +2,7 @@
 use Rattle.std.specs.Prelude.{◌≡◌, ℕ, List, [], ◌++◌, take, Option, Some, None, IsFalse}
 use Rattle.lra_wire.specs.Request.{Request}
 use Rattle.lra_front.specs.declared.stream.StreamEnd.{StreamEnd}
-use Rattle.lra_steps.specs.declared.responder.Answered.{Answered}
+use Rattle.lra_steps.specs.declared.handler.Answered.{Answered}
 use Rattle.lra_steps.specs.History.{History}
 use Rattle.lra_steps.specs.Pieces.{Chain}
 

@@ -1,6 +1,6 @@
 //! Callback exchanges that are refused a growth: run with one allocation failing in turn.
-use super::carrying::asked;
-use lra_courier::{Carrying, SendFault, Step};
+use super::callback_exchange::asked;
+use lra_courier::{CallbackExchange, SendFault, Step};
 use lra_model::Outcome;
 use std::alloc::Global;
 
@@ -13,65 +13,69 @@ const CHUNKED: &[u8] =
 const ENDED: &[u8] = b"HTTP/1.1 200 OK\r\n\r\nCompleted";
 
 /// Begins a callback exchange, and tries again if memory was refused.
-fn made(alloc: Global) -> Option<Carrying> {
-    match Carrying::new(alloc, &asked()) {
-        Ok(carrying) => Some(carrying),
-        Err(SendFault::Memory) => Carrying::new(alloc, &asked()).ok(),
+fn made(alloc: Global) -> Option<CallbackExchange> {
+    match CallbackExchange::new(alloc, &asked()) {
+        Ok(callback_exchange) => Some(callback_exchange),
+        Err(SendFault::Memory) => CallbackExchange::new(alloc, &asked()).ok(),
         Err(_) => None,
     }
 }
 
 /// Returns how many bytes may be sent and accepted, and the outcome, if it is known.
-fn shown(carrying: &Carrying) -> (usize, usize, Option<Outcome>) {
-    (carrying.out().len(), carrying.room(), carrying.outcome())
+fn shown(callback_exchange: &CallbackExchange) -> (usize, usize, Option<Outcome>) {
+    (
+        callback_exchange.out().len(),
+        callback_exchange.room(),
+        callback_exchange.outcome(),
+    )
 }
 
 /// Takes the next step. If memory is refused it checks that the exchange is unchanged, and tries again.
-fn next(carrying: &mut Carrying) -> Option<Step> {
-    let before = shown(carrying);
-    if let Ok(step) = carrying.next() {
+fn next(callback_exchange: &mut CallbackExchange) -> Option<Step> {
+    let before = shown(callback_exchange);
+    if let Ok(step) = callback_exchange.next() {
         return Some(step);
     }
-    if shown(carrying) != before {
+    if shown(callback_exchange) != before {
         return None;
     }
-    carrying.next().ok()
+    callback_exchange.next().ok()
 }
 
 /// Gives bytes to an exchange. If memory is refused it checks that the exchange is unchanged, and tries again.
-fn take(carrying: &mut Carrying, bytes: &[u8]) -> Option<bool> {
-    let before = shown(carrying);
-    if let Ok(taken) = carrying.take(bytes) {
+fn take(callback_exchange: &mut CallbackExchange, bytes: &[u8]) -> Option<bool> {
+    let before = shown(callback_exchange);
+    if let Ok(taken) = callback_exchange.take(bytes) {
         return Some(taken);
     }
-    if shown(carrying) != before {
+    if shown(callback_exchange) != before {
         return None;
     }
-    carrying.take(bytes).ok()
+    callback_exchange.take(bytes).ok()
 }
 
 /// Returns the outcome of an exchange whose response comes byte by byte, and then the end.
-fn heard(carrying: &mut Carrying, bytes: &[u8]) -> Option<Outcome> {
-    let count = carrying.out().len();
-    carrying.gone(count);
+fn heard(callback_exchange: &mut CallbackExchange, bytes: &[u8]) -> Option<Outcome> {
+    let count = callback_exchange.out().len();
+    callback_exchange.advance_by(count);
     for place in 0..bytes.len() {
-        next(carrying)?;
-        if !take(carrying, &bytes[place..place + 1])? {
+        next(callback_exchange)?;
+        if !take(callback_exchange, &bytes[place..place + 1])? {
             return None;
         }
     }
-    next(carrying)?;
-    carrying.ended();
-    next(carrying)?;
-    carrying.outcome()
+    next(callback_exchange)?;
+    callback_exchange.ended();
+    next(callback_exchange)?;
+    callback_exchange.outcome()
 }
 
 fn is_done(alloc: Global, bytes: &[u8]) -> bool {
-    let Some(mut carrying) = made(alloc) else {
+    let Some(mut callback_exchange) = made(alloc) else {
         return false;
     };
-    let outcome = heard(&mut carrying, bytes);
-    drop(carrying);
+    let outcome = heard(&mut callback_exchange, bytes);
+    drop(callback_exchange);
     outcome == Some(Outcome::Done)
 }
 

@@ -10,12 +10,12 @@ use Rattle.lra_wire.specs.declared.response.Head.{Head}
 use Rattle.lra_wire.specs.Response.{HasResponse, NeverShort, fields_in, framing_of, RefusesResponse, Skips, HasFinal}
 use Rattle.lra_wire.specs.Response.{IsBody, RefusesFramed, EndsInResponse, AwaitsBody, AwaitsResponse}
 use Rattle.lra_wire.specs.declared.wanted.BodyFront.{BodyFront}
-use Rattle.lra_wire.specs.declared.coming.Coming.{Coming}
+use Rattle.lra_wire.specs.declared.response_parse.ResponseParse.{ResponseParse}
 use Rattle.lra_wire.specs.declared.chunks.ChunksRead.{ChunksRead}
-use Rattle.lra_wire.specs.declared.coming.Passed.{Passed}
+use Rattle.lra_wire.specs.declared.response_parse.InterimHeads.{InterimHeads}
 use Rattle.lra_wire.specs.declared.wanted.Wanted.TheVariants.{Feed}
-use Rattle.lra_wire.specs.Coming.{Lasts}
-use Rattle.lra_wire.specs.declared.coming.Coming.TheVariants as coming
+use Rattle.lra_wire.specs.ResponseParse.{Lasts}
+use Rattle.lra_wire.specs.declared.response_parse.ResponseParse.TheVariants as response_parse
 use Rattle.lra_wire.specs.declared.wanted.BodyFront.TheVariants as body
 use Rattle.lra_wire.specs.inner.Wanted.{IsOpenAt, LastsAt}
 use Rattle.lra_wire.specs.inner.Chunked.{HasRead}
@@ -49,12 +49,12 @@ pub record Heads (bytes : List ℕ) (start interim : ℕ) : Type 0 where
   pub so_far : SkipsTo bytes start interim
 
 -- the bytes begin with the interim heads that were read
-abbrev pub Passes : List ℕ → Passed → Type 0
+abbrev pub Passes : List ℕ → InterimHeads → Type 0
 Passes bytes passed = Heads bytes passed.end passed.count
 
 -- the number of bytes at which a line that isn't whole is too long: those of the interim heads and one more head, or of
 -- the largest response
-abbrev pub most_bytes : Option Head → Passed → ℕ
+abbrev pub most_bytes : Option Head → InterimHeads → ℕ
 most_bytes None passed = passed.end + 8192
 most_bytes (Some head) passed = 1048576
 
@@ -119,6 +119,6 @@ EndsOpen None bytes = EndsInResponse bytes
 EndsOpen (Some head) bytes = (framing : Framing) × (head.framing ≡ Ok framing) × EndsBody framing head.len bytes
 
 -- the same where no whole response was found
-abbrev pub EndsAsOpen : Option Head → List ℕ → Coming → Type 0
-EndsAsOpen head bytes (coming.Whole read len) = ⊤
-EndsAsOpen head bytes (coming.Open wanted) = EndsOpen head bytes
+abbrev pub EndsAsOpen : Option Head → List ℕ → ResponseParse → Type 0
+EndsAsOpen head bytes (response_parse.Whole read len) = ⊤
+EndsAsOpen head bytes (response_parse.Open wanted) = EndsOpen head bytes

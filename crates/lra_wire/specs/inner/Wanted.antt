@@ -5,7 +5,7 @@ use Rattle.lra_wire.specs.Response.{AwaitsResponse}
 use Rattle.std.specs.List.{list_any}
 use Rattle.lra_wire.specs.declared.wanted.Wanted.{Wanted}
 use Rattle.lra_wire.specs.declared.wanted.Wanted.TheVariants.{Feed, Bytes}
-use Rattle.lra_wire.specs.Coming.{Lasts}
+use Rattle.lra_wire.specs.ResponseParse.{Lasts}
 
 -- what is wanted hasn't come: a line feed after so many bytes, or so many bytes in all
 abbrev pub IsMissing : Wanted → List ℕ → Type 0

@@ -5,18 +5,18 @@ use Rattle.lra_steps.proofs.serve.feed.Given as goal
 -- that much of the piece was accepted, and the requests that stood were answered
 abbrev pub invariant-loop-alloc : goal.invariant-loop-alloc
 invariant-loop-alloc g l =
-    let sight = g.A.Responder.sight in
-    let base_of = g.A.Responder.base_of in
-    let responds = g.A.Responder.responds in
+    let sight = g.A.Handler.sight in
+    let base_of = g.A.Handler.base_of in
+    let responds = g.A.Handler.responds in
     let tells = g.K.Clock.tells in
     record {
       within : l.at ≤ length l.piece;
       none : l.connection.stands ≡ None;
-      base : l.connection.base ≡ base_of (sight l.responder);
+      base : l.connection.base ≡ base_of (sight l.handler);
       own : l.connection.base ≡ l.fn.connection.base;
-      follows : (v : g.A.Responder.State) (k : g.row.K.Denot) → Follows base_of responds tells v k l.fn.connection
-          (sight l.fn.responder) l.fn.clock
-          → Follows base_of responds tells v k l.connection (sight l.responder) l.clock;
+      follows : (v : g.A.Handler.State) (k : g.row.K.Denot) → Follows base_of responds tells v k l.fn.connection
+          (sight l.fn.handler) l.fn.clock
+          → Follows base_of responds tells v k l.connection (sight l.handler) l.clock;
       instance : l.connection.instance ≡ l.fn.connection.instance;
       sent : l.connection.sent ≡ l.fn.connection.sent;
       closed : l.connection.closed ≡ l.fn.connection.closed;

@@ -7,5 +7,5 @@ returns g c =
     serves_alone g.row.C.Denot g.row.K.Denot g.C.Counter.sight g.C.Session.covers g.C.Counter.gives g.K.Clock.tells
     g.met.C.Counter.keeps c.instance-instance.result
     (flat_map (λ piece. piece.items) c.args.pieces.now) c.args.sent.now.items c.args.counter.now
-    c.serve_new.new.responder c.args.clock.now c.serve_new.new.clock
+    c.serve_new.new.handler c.args.clock.now c.serve_new.new.clock
     c.serve_new.result c.serve_new.new.sent.items c.instance-instance.ensures c.serve_new.ensures

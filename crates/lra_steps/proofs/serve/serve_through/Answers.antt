@@ -14,8 +14,8 @@ none_taken (suc n) = refl
 
 pub loop-piece-init : goal.loop-piece-init
 loop-piece-init g c = record {
-  follows = follows_fresh g.A.Responder.State g.row.K.Denot g.A.Responder.base_of g.A.Responder.responds g.K.Clock.tells
-      (g.A.Responder.sight c.args.responder.now) c.args.clock.now c.args.connection.now c.requires;
+  follows = follows_fresh g.A.Handler.State g.row.K.Denot g.A.Handler.base_of g.A.Handler.responds g.K.Clock.tells
+      (g.A.Handler.sight c.args.handler.now) c.args.clock.now c.args.connection.now c.requires;
   instance = refl;
   base = refl;
   closed = c.requires.closed;
@@ -26,13 +26,13 @@ loop-piece-init g c = record {
 pub returns-in-Some : goal.returns-in-Some
 returns-in-Some g c =
     let K = g.row.K.Denot in
-    let S = g.A.Responder.State in
-    let base_of = g.A.Responder.base_of in
-    let responds = g.A.Responder.responds in
+    let S = g.A.Handler.State in
+    let base_of = g.A.Handler.base_of in
+    let responds = g.A.Handler.responds in
     let tells = g.K.Clock.tells in
-    let v = g.A.Responder.sight c.args.responder.now in
+    let v = g.A.Handler.sight c.args.handler.now in
     let k = c.args.clock.now in
-    let w = g.A.Responder.sight c.feed.new.responder in
+    let w = g.A.Handler.sight c.feed.new.handler in
     let l = c.feed.new.clock in
     let bytes = λ (piece : Vec ℕ Global). piece.items in
     let pieces = c.args.pieces.now in
@@ -64,13 +64,13 @@ returns-in-Some g c =
 pub returns : goal.returns
 returns g c =
     let K = g.row.K.Denot in
-    let S = g.A.Responder.State in
-    let base_of = g.A.Responder.base_of in
-    let responds = g.A.Responder.responds in
+    let S = g.A.Handler.State in
+    let base_of = g.A.Handler.base_of in
+    let responds = g.A.Handler.responds in
     let tells = g.K.Clock.tells in
-    let v = g.A.Responder.sight c.args.responder.now in
+    let v = g.A.Handler.sight c.args.handler.now in
     let k = c.args.clock.now in
-    let w = g.A.Responder.sight c.feed-2.new.responder in
+    let w = g.A.Handler.sight c.feed-2.new.handler in
     let l = c.feed-2.new.clock in
     let bytes = λ (piece : Vec ℕ Global). piece.items in
     let pieces = c.args.pieces.now in
@@ -80,7 +80,7 @@ returns g c =
     let h = c.flush-2.new.connection in
     let inv = c.loop-piece.invariant in
     let shut = c.finish.ensures in
-    let follows = follows_finished S K base_of responds tells v (g.A.Responder.sight c.loop-piece.responder) k
+    let follows = follows_finished S K base_of responds tells v (g.A.Handler.sight c.loop-piece.handler) k
     c.loop-piece.clock c.loop-piece.connection old shut inv.follows in
     let f = subst (λ (o : Option StreamEnd). Fed base_of responds tells o [] v k old fed w l) c.in-Some-end.is
     (c.in_ok-end-2.ensures v k follows) in

@@ -5,8 +5,8 @@ use Rattle.lra_steps.proofs.serve.serve_through.Given as goal
 -- the pieces so far were accepted, and what was replied was sent
 abbrev pub invariant-loop-piece : goal.invariant-loop-piece
 invariant-loop-piece g l = record {
-  follows : Follows g.A.Responder.base_of g.A.Responder.responds g.K.Clock.tells (g.A.Responder.sight l.fn.responder)
-      l.fn.clock l.connection (g.A.Responder.sight l.responder) l.clock;
+  follows : Follows g.A.Handler.base_of g.A.Handler.responds g.K.Clock.tells (g.A.Handler.sight l.fn.handler)
+      l.fn.clock l.connection (g.A.Handler.sight l.handler) l.clock;
   instance : l.connection.instance ≡ l.fn.connection.instance;
   base : l.connection.base ≡ l.fn.connection.base;
   closed : IsFalse l.connection.closed;

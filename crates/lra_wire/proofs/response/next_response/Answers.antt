@@ -1,10 +1,10 @@
 use Rattle.std.proofs.Common.{ℕ, List, Bool, Ok, Err, sym, subst, inl, refl}
 use Rattle.std.proofs.lemmas.Result.{err_from_is_err_and}
-use Rattle.lra_wire.specs.declared.coming.Coming.{Coming}
-use Rattle.lra_wire.specs.Coming.{IsComing, IsOpen}
+use Rattle.lra_wire.specs.declared.response_parse.ResponseParse.{ResponseParse}
+use Rattle.lra_wire.specs.ResponseParse.{IsComing, IsOpen}
 use Rattle.lra_wire.specs.Inbox.{kept_bytes}
 use Rattle.lra_wire.specs.Response.{AwaitsResponse}
-use Rattle.lra_wire.specs.Seen.{SeesResponse}
+use Rattle.lra_wire.specs.RequestCursor.{SeesResponse}
 use Rattle.lra_wire.specs.inner.Growth.{Fills}
 use Rattle.lra_wire.specs.inner.Reading.{IsLast}
 use Rattle.lra_wire.proofs.ComingLemmas.{sees_more}
@@ -20,8 +20,8 @@ loop-seen-init g c = (
 
 pub returns-in_err-fill-clause-asks : goal.returns-in_err-fill-clause-asks
 returns-in_err-fill-clause-asks g c =
-    let o = subst (λ (coming : Coming). IsComing c.bytes.result.now (Ok coming)) c.in-Open.is
-    c.in_ok-response.ensures.coming in
+    let o = subst (λ (response_parse : ResponseParse). IsComing c.bytes.result.now (Ok response_parse)) c.in-Open.is
+    c.in_ok-response.ensures.response_parse in
     let here = response_open (kept_bytes c.loop-seen.inbox) c.in-Open.field-0
     (subst (λ (bs : List ℕ). IsOpen bs c.in-Open.field-0) c.bytes.ensures o) in
     asks_more AwaitsResponse c.args.inbox.now c.loop-seen.inbox c.fill.new.self c.loop-seen.invariant.0.asks
@@ -39,8 +39,8 @@ returns-in_err-response-2-clause-next g c =
 
 pub returns-in_err-response-2-clause-asks : goal.returns-in_err-response-2-clause-asks
 returns-in_err-response-2-clause-asks g c =
-    let o = subst (λ (coming : Coming). IsComing c.bytes.result.now (Ok coming)) c.in-Open.is
-    c.in_ok-response.ensures.coming in
+    let o = subst (λ (response_parse : ResponseParse). IsComing c.bytes.result.now (Ok response_parse)) c.in-Open.is
+    c.in_ok-response.ensures.response_parse in
     let here = response_open (kept_bytes c.loop-seen.inbox) c.in-Open.field-0
     (subst (λ (bs : List ℕ). IsOpen bs c.in-Open.field-0) c.bytes.ensures o) in
     asks_more AwaitsResponse c.args.inbox.now c.loop-seen.inbox c.fill.new.self c.loop-seen.invariant.0.asks
@@ -59,8 +59,8 @@ returns-then-not-branch-clause-next g c =
 
 pub returns-then-not-branch-clause-asks : goal.returns-then-not-branch-clause-asks
 returns-then-not-branch-clause-asks g c =
-    let o = subst (λ (coming : Coming). IsComing c.bytes.result.now (Ok coming)) c.in-Open.is
-    c.in_ok-response.ensures.coming in
+    let o = subst (λ (response_parse : ResponseParse). IsComing c.bytes.result.now (Ok response_parse)) c.in-Open.is
+    c.in_ok-response.ensures.response_parse in
     let here = response_open (kept_bytes c.loop-seen.inbox) c.in-Open.field-0
     (subst (λ (bs : List ℕ). IsOpen bs c.in-Open.field-0) c.bytes.ensures o) in
     asks_taken AwaitsResponse c.args.inbox.now c.fill.new.self c.take-then-not-branch.new.self
@@ -70,8 +70,8 @@ returns-then-not-branch-clause-asks g c =
 
 pub loop-seen-preserved : goal.loop-seen-preserved
 loop-seen-preserved g c =
-    let o = subst (λ (coming : Coming). IsComing c.bytes.result.now (Ok coming)) c.in-Open.is
-    c.in_ok-response.ensures.coming in
+    let o = subst (λ (response_parse : ResponseParse). IsComing c.bytes.result.now (Ok response_parse)) c.in-Open.is
+    c.in_ok-response.ensures.response_parse in
     let here = response_open (kept_bytes c.loop-seen.inbox) c.in-Open.field-0
     (subst (λ (bs : List ℕ). IsOpen bs c.in-Open.field-0) c.bytes.ensures o) in
     let fills = subst (λ (came : Bool). Fills g.R.Read.remaining c.loop-seen.inbox c.fill.new.self (Ok came))

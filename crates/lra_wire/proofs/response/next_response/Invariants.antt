@@ -1,7 +1,7 @@
 use Rattle.std.proofs.Common.{◌-◌, length}
 use Rattle.lra_wire.specs.Inbox.{kept_bytes}
 use Rattle.lra_wire.specs.Response.{AwaitsResponse}
-use Rattle.lra_wire.specs.Seen.{SeesResponse}
+use Rattle.lra_wire.specs.RequestCursor.{SeesResponse}
 use Rattle.lra_wire.proofs.InboxLemmas.{Waits}
 use Rattle.lra_wire.proofs.response.next_response.Given as goal
 

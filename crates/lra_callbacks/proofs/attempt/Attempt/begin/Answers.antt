@@ -15,6 +15,7 @@ invariant_of-self g c =
     record {
       leave = λ x e y h. subst (λ (f : Flight). MayLeave keeps y.1 f.kept) (same_Some _ x e)
           (subst (λ (n : ℕ). MayLeave keeps n c.in-Some.kept) (c.position.ensures y h) told);
-      own = λ x e. subst (λ (f : Flight). ForSome c.args.self.now.errand (λ y. IsFor f.carrying y.0)) (same_Some _ x e)
+      own = λ x e. subst (λ (f : Flight). ForSome c.args.self.now.errand (λ y. IsFor f.callback_exchange y.0))
+          (same_Some _ x e)
           (λ y h. (c.in-Some-callback.ensures y h).own);
     }

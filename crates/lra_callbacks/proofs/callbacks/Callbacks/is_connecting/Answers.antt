@@ -8,5 +8,6 @@ returns-in-Some-target g c = kept_errands c.self.inside.calls.slots c.args.key c
 
 pub returns-in-None : goal.returns-in-None
 returns-in-None g c = c.end_unconnected.ensures ∙ (kept_errands c.self.inside.calls.slots c.args.key
-    c.in-Some.call.now c.hang_up.new.self (λ call. call.attempt.errand) c.in-Some.ensures.value c.hang_up.ensures
+    c.in-Some.call.now c.close_socket.new.self (λ call. call.attempt.errand) c.in-Some.ensures.value
+    c.close_socket.ensures
     ∙ c.self.view_is)

@@ -1,5 +1,5 @@
 use Rattle.lra_callbacks.specs.Outcomes.{OfGroup}
-use Rattle.lra_callbacks.proofs.Coming.{own_comes}
+use Rattle.lra_callbacks.proofs.ResponseParse.{own_comes}
 use Rattle.lra_callbacks.proofs.Slots.{given_back, let_go}
 use Rattle.lra_callbacks.proofs.callbacks.Callbacks.remove.Goals as goal
 

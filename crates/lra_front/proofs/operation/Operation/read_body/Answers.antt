@@ -17,4 +17,4 @@ returns-in-Ok-2 c =
     (search rules) c.if-fits.false
 
 pub returns-in-Err : goal.returns-in-Err
-returns-in-Err c = read_denied c.args.self c.args.body.now c.in-Err.denial (search rules) c.in-Err.ensures
+returns-in-Err c = read_denied c.args.self c.args.body.now c.in-Err.api_error (search rules) c.in-Err.ensures

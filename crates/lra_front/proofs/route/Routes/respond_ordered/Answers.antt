@@ -1,11 +1,11 @@
 use Rattle.lra_wire.specs.Request.{request_of}
-use Rattle.lra_front.proofs.Responding.{answerable}
+use Rattle.lra_front.proofs.TimedRequest.{answerable}
 use Rattle.lra_front.proofs.route.Routes.respond_ordered.Goals as goal
 
 pub answer-requires : goal.answer-requires
 answer-requires g c =
     answerable (g.C.Counter.sight c.args.counter.now) (g.C.Counter.sight c.give-reply.new.self) c.args.moment
     (request_of c.args.request.now)
-    c.order.result c.in-Ok.wish c.give-reply.result
+    c.order.result c.in-Ok.api_request c.give-reply.result
     (rw (← c.instance.ensures, ← c.base.ensures) c.in-Ok.ensures) c.order.ensures
     (g.met.C.Counter.keeps _ _ _ _ _ c.give-reply.ensures)

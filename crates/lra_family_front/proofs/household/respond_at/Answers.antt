@@ -1,5 +1,0 @@
-use Rattle.std.proofs.Common.{inl}
-use Rattle.lra_family_front.proofs.household.respond_at.Goals as goal
-
-pub returns-in-None-clause-serves : goal.returns-in-None-clause-serves
-returns-in-None-clause-serves g c = inl (c.in-None.ensures.none, c.respond.ensures.serves)

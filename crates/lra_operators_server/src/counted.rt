@@ -1,0 +1,94 @@
+//! A filter that tallies requests.
+
+ghost use Rattle.std.specs.Prelude.{◌≡◌};
+
+use crate::tallies::Tallies;
+use lra_commands::Refusal;
+use lra_front::{Answer, ApiError, Routes};
+use lra_ids::{Base, Instance};
+use lra_steps::{Answered, Handler};
+use lra_wire::RequestRead;
+use std::alloc::Global;
+use std::time::{Clock, Instant};
+
+/// Handler that answers requests as another one does, and tallies them.
+#[derive(Drop)]
+pub struct CountingHandler<'a, A, R> {
+    inner: A,
+    rt: &'a R,
+    tallies: &'a Tallies,
+}
+
+/// Returns whether an answer says that the coordinator has stopped.
+fn has_stopped(answer: Answer) -> bool {
+    matches!(answer, Answer::Denied(ApiError::Refused(Refusal::Stopped)))
+}
+
+impl<'a, A, R> CountingHandler<'a, A, R> {
+    /// Makes a handler that answers as another one does.
+    pub fn new(inner: A, rt: &'a R, tallies: &'a Tallies) -> CountingHandler<'a, A, R>
+        ensures { result.inner ≡ inner }
+    {
+        CountingHandler { inner, rt, tallies }
+    }
+
+    /// Returns the inner handler.
+    pub fn into_inner(self) -> A
+        ensures { result ≡ self.entry.inner }
+    {
+        let CountingHandler {
+            inner,
+            rt: _,
+            tallies: _,
+        } = self;
+        inner
+    }
+}
+
+impl<A: Handler, R: Clock> Handler for CountingHandler<'_, A, R> {
+    ghost State = { A.State };
+
+    ghost sight = { λ c. A.sight c.inner };
+
+    ghost base_of = { A.base_of };
+
+    ghost responds = { A.responds };
+
+    ghost rests = { A.rests };
+
+    fn base(&self) -> &Base {
+        self.inner.base()
+    }
+
+    fn instance(&self) -> Instance {
+        self.inner.instance()
+    }
+
+    fn respond(
+        &mut self,
+        alloc: Global,
+        routes: &Routes,
+        moment: u64,
+        request: &RequestRead,
+    ) -> Answered {
+        let began = Instant::now(self.rt).ok();
+        let answered = self.inner.respond(alloc, routes, moment, request);
+        let operation = routes
+            .operation(request.method.as_str(), request.target.as_str())
+            .ok();
+        self.tallies
+            .add_request(self.rt, operation, answered.answer.status(), began);
+        if has_stopped(answered.answer) {
+            self.tallies.stop(answered.instance);
+        }
+        answered
+    }
+
+    fn on_idle(&mut self) {
+        self.inner.on_idle();
+    }
+
+    ghost stays = { λ before after moment request answered h. A.stays before after moment request answered h };
+
+    ghost rest_stays = { λ before after h. A.rest_stays before after h };
+}

@@ -1,5 +1,0 @@
-use Rattle.lra_proxied.proofs.Orders.{others_stay}
-use Rattle.lra_proxied.proofs.laws.others_mean_themselves.Goals as goal
-
-pub returns : goal.returns
-returns c = others_stay

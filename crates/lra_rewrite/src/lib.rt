@@ -1,0 +1,20 @@
+//! Requests that came by a proxy, that name identifiers under an older base, or that start an action and give no limit.
+//! Filters rewrite each of them to the request that it means, and pass that to a handler.
+#![tactic(auto)]
+
+mod asked;
+mod bodies;
+mod bytes;
+mod default_limit_filter;
+mod laws;
+mod limits;
+mod paths;
+mod requests;
+mod rewrite_filter;
+mod texts;
+
+pub use default_limit_filter::DefaultLimitFilter;
+pub use laws::{others_mean_themselves, starts_ask_for_the_default};
+pub use paths::path_of;
+pub use rewrite_filter::RewriteFilter;
+pub use texts::copy_bases;

@@ -1,0 +1,98 @@
+//! A filter that passes to a handler what each request means.
+
+ghost use Rattle.std.specs.Prelude.{◌≡◌};
+
+use crate::asked::ask;
+use crate::paths::is_outside;
+use crate::requests::other_request;
+use lra_front::{ApiError, Routes};
+use lra_ids::{Base, Instance};
+use lra_steps::{Answered, Handler};
+use lra_wire::RequestRead;
+use std::alloc::Global;
+
+/// Filter that passes to a handler what each request means: behind a proxy that passes the path of the base on, and by
+/// identifiers under older bases. A strict filter accepts requests by the path of the base alone. It can't be dropped,
+/// but returns the handler.
+pub struct RewriteFilter<A: Handler> {
+    inner: A,
+    olders: Vec<Base>,
+    is_strict: bool,
+}
+
+impl<A: Handler> RewriteFilter<A> {
+    /// Puts a filter round a handler. Identifiers may be under older bases: the first base that an identifier is under
+    /// counts. A strict filter denies each request whose target isn't under the path of the base, which is all of them
+    /// if that path is `/` alone.
+    pub fn new(inner: A, olders: Vec<Base>, is_strict: bool) -> RewriteFilter<A>
+        ensures inner { result.inner ≡ inner }
+        ensures olders { result.olders ≡ olders }
+        ensures is_strict { result.is_strict ≡ is_strict }
+    {
+        RewriteFilter {
+            inner,
+            olders,
+            is_strict,
+        }
+    }
+
+    /// Returns the handler.
+    pub fn into_inner(self) -> A
+        ensures { result ≡ self.inner }
+    {
+        let RewriteFilter {
+            inner,
+            olders,
+            is_strict: _,
+        } = self;
+        drop(olders);
+        inner
+    }
+}
+
+impl<A: Handler> Handler for RewriteFilter<A> {
+    ghost use Rattle.lra_rewrite.specs.Serving.{Served, Responds, Rests};
+    ghost use Rattle.lra_rewrite.specs.inner.Stays.{base_stays};
+
+    ghost State = { Served A.State };
+
+    ghost sight = { λ p. record { inner = A.sight p.inner; olders = p.olders.items; is_strict = p.is_strict } };
+
+    ghost base_of = { λ s. A.base_of s.inner };
+
+    ghost responds = { Responds A.base_of A.responds };
+
+    ghost rests = { Rests A.rests };
+
+    fn base(&self) -> &Base {
+        self.inner.base()
+    }
+
+    fn instance(&self) -> Instance {
+        self.inner.instance()
+    }
+
+    fn respond(
+        &mut self,
+        alloc: Global,
+        routes: &Routes,
+        moment: u64,
+        request: &RequestRead,
+    ) -> Answered {
+        let base = self.inner.base();
+        if self.is_strict && is_outside(base.as_str(), request.target.as_str()) {
+            return Answered::denied(self.inner.instance(), ApiError::NoSuchPath);
+        }
+        let meant = other_request(alloc, routes, base, self.olders.as_slice(), request);
+        ask(&mut self.inner, alloc, routes, moment, request, meant)
+    }
+
+    fn on_idle(&mut self) {
+        self.inner.on_idle();
+    }
+
+    ghost stays = { λ before after moment request answered h. base_stays A.base_of A.responds A.stays before after
+        moment request answered h };
+
+    ghost rest_stays = { λ before after h. A.rest_stays before.inner after.inner h.inner };
+}

@@ -1,0 +1,66 @@
+//! Manner in which a folder is served, beside its settings.
+
+use lra_journal_folder::{Contents, Folder, RollingFault};
+use lra_model::Instance;
+use lra_opening::ServeFault;
+use lra_registry::JournalMonitor;
+use lra_sessions::JournalSession;
+use lra_storage::Fence;
+use std::fs::File;
+use std::rt::Files;
+use std::sync::Arc;
+
+/// Manner in which a folder is served from one start on, beside its settings.
+#[derive(Clone, Copy)]
+pub struct FolderOptions<'a> {
+    /// Mark that starts that name no action of the folder are refused. The service ends once nothing is left to be
+    /// done.
+    pub drains: bool,
+    /// Mark that the folder was restored from a copy, which may lack entries that were answered since. The journals
+    /// that it has accept no new work.
+    pub is_restored: bool,
+    /// Fence that names the folder's owner. Once it has fallen, nothing is written or synced.
+    pub fence: Option<&'a Arc<Fence>>,
+}
+
+impl FolderOptions<'_> {
+    /// Returns the instance up to which journals accept no new work, if the folder was restored. If the options say now
+    /// that it was, writes that instance to the folder first.
+    pub(crate) fn restored<R: Files<File = File> + AllocGlobal + Clone + Drop>(
+        &self,
+        folder: &Folder<'_, R>,
+        contents: &Contents,
+    ) -> Result<Option<Instance>, RollingFault> {
+        if !self.is_restored {
+            return folder.restored();
+        }
+        let Some(newest) = Instance::new(folder.newest(contents)?) else {
+            return Ok(None);
+        };
+        match folder.note_restored(newest) {
+            Ok(()) => Ok(Some(newest)),
+            Err(_) => Err(RollingFault::Here(ServeFault::File)),
+        }
+    }
+}
+
+/// Returns the least number of an instance whose journal accepts new work. Journals up to the last one, if there is
+/// one, accept none.
+pub(crate) fn first_open(last: Option<Instance>) -> u64 {
+    match last {
+        Some(last) => last.number().saturating_add(1),
+        None => 0,
+    }
+}
+
+/// Closes journals before the first one to new work. Returns whether the newest journal, which comes last, accepts it.
+pub(crate) fn retire<B: JournalSession + Drop>(watches: &[JournalMonitor<B>], first: u64) -> bool {
+    let mut takes = false;
+    for watch in watches {
+        takes = first <= watch.journal.instance.number();
+        if !takes {
+            watch.journal.retire();
+        }
+    }
+    takes
+}

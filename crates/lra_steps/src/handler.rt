@@ -1,0 +1,147 @@
+//! Handlers, which answer requests.
+
+ghost use Rattle.std.specs.Prelude.{◌≡◌};
+ghost use Rattle.lra_wire.specs.Request.{request_of};
+ghost use Rattle.lra_front.specs.Replies.{HasIdentifiers};
+ghost use Rattle.lra_steps.specs.Positions.{denied};
+
+use lra_commands::{Counter, Session};
+use lra_front::{Answer, ApiError, Routes};
+use lra_ids::{Base, Instance};
+use lra_wire::RequestRead;
+use std::alloc::Global;
+
+/// Answer to a request, and the position in a journal that it depends on.
+#[derive(Clone, Copy, Debug, PartialEq, Eq)]
+pub struct Answered {
+    /// Instance whose identifiers the answer names.
+    pub instance: Instance,
+    pub answer: Answer,
+    /// Position of the answer: the number of bytes, of those appended to the instance's journal since it was opened,
+    /// that record all that the answer depends on. An answer has none, and waits for nothing, where no coordinator was
+    /// asked.
+    pub position: Option<u64>,
+}
+
+impl Answered {
+    /// Returns an API error for which no coordinator was asked.
+    pub fn denied(instance: Instance, api_error: ApiError) -> Answered
+        ensures { result ≡ denied instance api_error }
+    {
+        Answered {
+            instance,
+            answer: Answer::Denied(api_error),
+            position: None,
+        }
+    }
+}
+
+/// Handler of requests: a counter, or several of which each request names one.
+///
+/// Callers know the base that all its URIs begin with. The type fixes two relations: what an answer does, and what a
+/// rest does. It is a law that neither changes that base.
+pub trait Handler {
+    ghost use Rattle.std.specs.Prelude.{◌≡◌, ℕ, List};
+    ghost use Rattle.lra_wire.specs.Request.{Request};
+    ghost use Rattle.lra_steps.specs.declared.handler.Answered.{Answered};
+
+    // What can be known of the handler.
+    ghost State: { Type 0 };
+
+    // What callers know of the handler.
+    ghost sight: { Self → State };
+
+    // The base that its URIs begin with, given what is known.
+    ghost base_of: { State → List ℕ };
+
+    // What a request at a moment does: what is known before it, its answer, and what is known after it.
+    ghost responds: { State → ℕ → Request → Answered → State → Type 0 };
+
+    // What a rest does: what is known before it and after it.
+    ghost rests: { State → State → Type 0 };
+
+    /// Returns the base that all its URIs begin with. It allocates no memory.
+    fn base(&self) -> &Base
+        ensures { result.now ≡ base_of (sight self.now) };
+
+    /// Returns the instance whose identifiers a reply to a fault of reading names. Such a reply answers no request. It
+    /// allocates no memory.
+    fn instance(&self) -> Instance;
+
+    /// Answers a request at a moment, in milliseconds.
+    fn respond(
+        &mut self,
+        alloc: Global,
+        routes: &Routes,
+        moment: u64,
+        request: &RequestRead,
+    ) -> Answered
+        ensures responds { responds (sight self.old) moment (request_of request.now) result (sight self.new) }
+        // The answer's numbers are those that identifiers can have.
+        ensures identifiers { HasIdentifiers result.answer };
+
+    /// Releases what is held for nothing, while no request comes. It is called now and then, and so has to be short.
+    fn on_idle(&mut self)
+        ensures rests { rests (sight self.old) (sight self.new) };
+
+    // Whatever an answer does, the base of the URIs stays.
+    ghost stays: { (before after : State) (moment : ℕ) (request : Request) (answered : Answered)
+        → responds before moment request answered after → base_of after ≡ base_of before };
+
+    // A rest doesn't change the base either.
+    ghost rest_stays: { (before after : State) → rests before after → base_of after ≡ base_of before };
+}
+
+/// Session as a handler: it answers all requests by itself, as `Routes::respond` does over it. A rest does nothing. An
+/// answer for which an order was given has the session's position after the order.
+impl<C: Session> Handler for C {
+    ghost use Rattle.std.specs.Prelude.{◌≡◌};
+    ghost use Rattle.lra_steps.specs.Pieces.{AnswersAlone};
+    ghost use Rattle.lra_steps.specs.inner.Alone.{base_of_session, rested_base, session_stays};
+
+    ghost State = { C };
+
+    ghost sight = { λ c. c };
+
+    ghost base_of = { base_of_session C.sight };
+
+    ghost responds = { AnswersAlone C.sight C.covers C.gives };
+
+    ghost rests = { λ before after. after ≡ before };
+
+    fn base(&self) -> &Base {
+        Counter::base(self)
+    }
+
+    fn instance(&self) -> Instance {
+        Counter::instance(self)
+    }
+
+    fn respond(
+        &mut self,
+        alloc: Global,
+        routes: &Routes,
+        moment: u64,
+        request: &RequestRead,
+    ) -> Answered {
+        let instance = Counter::instance(self);
+        let (answer, is_ordered) = routes.respond_ordered(alloc, self, moment, request);
+        let position = if is_ordered {
+            Some(Session::position(self))
+        } else {
+            None
+        };
+        Answered {
+            instance,
+            answer,
+            position,
+        }
+    }
+
+    fn on_idle(&mut self) {}
+
+    ghost stays = { λ before after moment request answered h. session_stays C.sight C.covers C.gives C.keeps before
+        after moment request answered h };
+
+    ghost rest_stays = { λ before after h. rested_base C.sight before after h };
+}

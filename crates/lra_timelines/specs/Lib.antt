@@ -1,0 +1,9 @@
+pub mod TimelineItems
+pub mod Times
+pub mod Sentences
+pub mod Waits
+pub mod Wanted
+pub mod Drawn
+pub mod Explained
+pub mod Lines
+pub mod inner

@@ -1,7 +1,0 @@
-use Rattle.lra_workers.proofs.Holding.{same_asks}
-use Rattle.lra_workers.proofs.carrier.carry_on.Goals as goal
-
-pub record_done-requires-clause-held : goal.record_done-requires-clause-held
-record_done-requires-clause-held g c =
-    same_asks g.V.Serving.covers _ (g.C.Carriage.held c.args.carriage.now) (g.C.Carriage.held c.carry.new.self)
-    c.carry.ensures c.requires.held
