@@ -4,6 +4,7 @@ use lra_model::Memory;
 use mio::net::TcpStream;
 use mio::{Poll, Token, Waker};
 use std::alloc::{AllocError, Global};
+use std::collections::VecDeque;
 use std::io;
 use std::net::Net;
 use std::sync::atomic::{AtomicBool, AtomicU64, Ordering};
@@ -25,8 +26,8 @@ pub(crate) enum AcceptState {
 /// State under the lock.
 #[derive(Drop)]
 struct Inner {
-    /// Connections that the thread hasn't taken yet.
-    streams: Vec<TcpStream>,
+    /// Connections that the thread hasn't taken yet, the oldest first.
+    streams: VecDeque<TcpStream>,
     /// Poll that the thread waits for streams with, until it takes the poll.
     poll: Option<Poll>,
     accept_state: AcceptState,
@@ -51,7 +52,7 @@ impl AcceptQueue {
         let waker = Waker::new(poll.registry(), WAKER)?;
         Ok(AcceptQueue {
             inner: Mutex::new(Inner {
-                streams: Vec::new(alloc),
+                streams: VecDeque::new(alloc),
                 poll: Some(poll),
                 accept_state: AcceptState::Open,
             }),
@@ -79,7 +80,7 @@ impl AcceptQueue {
             drop(stream);
             return Ok(());
         }
-        if inner.streams.push(stream).is_err() {
+        if inner.streams.push_back(stream).is_err() {
             return Err(AllocError);
         }
         drop(inner);
@@ -126,13 +127,13 @@ impl AcceptQueue {
         self.inner.lock(rt).accept_state
     }
 
-    /// Takes a connection from the queue.
+    /// Takes the connection from the queue that has waited longest.
     pub(crate) fn next<R: Wait>(&self, rt: &R) -> Option<TcpStream> {
-        self.inner.lock(rt).streams.pop()
+        self.inner.lock(rt).streams.pop_front()
     }
 
     /// Notes how many clients the thread has.
-    pub(crate) fn tell(&self, clients: usize) {
+    pub(crate) fn note_load(&self, clients: usize) {
         self.clients.store(clients as u64, Ordering::SeqCst);
     }
 }

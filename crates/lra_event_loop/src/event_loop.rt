@@ -187,7 +187,7 @@ impl<'a, R: Wait + time::Clock, G: SyncGroup> EventLoop<'a, R, G> {
             };
             clients.admit(registry, stream, instance, base, self.most, now);
         }
-        self.accept_queue.tell(clients.len());
+        self.accept_queue.note_load(clients.len());
     }
 
     /// Hands out the replies that may leave. Once nothing else is to be done, or replies have waited for some
