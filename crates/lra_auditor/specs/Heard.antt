@@ -1,4 +1,4 @@
--- What who follows an audit has heard.
+-- What a follower of an audit has heard.
 use Rattle.std.specs.Prelude.{ℕ, ◌∷◌, [], ◌++◌}
 use Rattle.lra_model.specs.declared.version.Version.{Version}
 use Rattle.lra_model.specs.declared.entry.Entry.{Entry}

@@ -1,4 +1,4 @@
--- What an audit answers, in the words of histories and of the journal's text.
+-- What an audit returns, in the words of histories and of the journal's text.
 use Rattle.std.specs.Prelude.{◌≡◌, ℕ, ◌+◌, ◌<◌, true, List, ◌++◌, length, Some, ◌⊎◌}
 use Rattle.lra_model.specs.declared.version.Version.{Version}
 use Rattle.lra_model.specs.declared.rule.Rule.{Rule}

@@ -19,7 +19,7 @@ pub record IsGiven {T : Type 0} (took : T → T → List ℕ → Type 0) (count 
   pub counted : length bytes + left ≡ 2 ^ 30
   pub grown : count taker ≡ count first + length bytes
 
--- who gave more bytes than so many had more
+-- a reader that gave more bytes than so many had more
 pub consumed_long : (a b : Option (List ℕ)) (bs : List ℕ) (n : ℕ) → Consumes a b bs → n < length bs
     → IfSome a (λ all. n < length all)
 consumed_long None b bs n h lt = tt
@@ -51,7 +51,7 @@ measured_in_memory (Err fault.Write) (Some all) h m = absurd h
 measured_in_memory (Err fault.Changed) (Some all) h m = absurd h
 measured_in_memory (Err (fault.Line n)) (Some all) h m = absurd h
 
--- a taker's own fault tells nothing of the input's length
+-- a taker's own fault says nothing of the input's length
 pub counted_by_taker : {X : Type 0} (r : Result X RunFault) (before : Option (List ℕ)) (f : RunFault)
     → IsErrAnd r (λ g. g ≡ f) → IsOfOutput f → IfSome before (IsCounted r)
 counted_by_taker (Ok x) before f e h = absurd e

@@ -14,7 +14,7 @@ use lra_auditor::{Rule, Verdict};
 use std::alloc::Global;
 use std::io::{Read, Write};
 
-/// Writes what is printed of a verdict.
+/// Writes the report on a verdict.
 pub fn put_report<W: Write>(
     alloc: Global,
     verdict: &Verdict,
@@ -28,7 +28,7 @@ pub fn put_report<W: Write>(
     put(writer, text.as_bytes())
 }
 
-/// Writes of an input, whose first fault is known, what its audit would write. The answer is the program's status.
+/// Writes the report on an input whose first fault is known, as its audit would. Returns the program's status.
 pub fn report_fault<W: Write>(
     alloc: Global,
     line: u64,
@@ -45,8 +45,7 @@ pub fn report_fault<W: Write>(
     Ok(status(&verdict))
 }
 
-/// Audits what the reader gives, and writes the verdict. The answer is the program's status: 0 for a sound journal,
-/// else 1.
+/// Audits what the reader gives, and writes the report. Returns the program's status: 0 for a sound journal, else 1.
 pub fn audit_run<R: Read + Drop, W: Write>(
     alloc: Global,
     mut reader: R,

@@ -7,7 +7,7 @@ use crate::fault::RunFault;
 use lra_auditor::Memory;
 use std::alloc::Global;
 
-/// The line on standard error for a fault in a run on this input. Standard output is written `-`.
+/// Returns the line on standard error for a fault in a run on this input. Standard output is named `-`.
 pub fn error_line(alloc: Global, fault: RunFault, input: &str) -> Result<String, Memory>
     ensures { IfOk result (λ text. string_bytes text ≡ error_line fault input.now) }
 {

@@ -1,4 +1,4 @@
-//! Why a program can't do what it was asked.
+//! The errors of a run.
 
 ghost use Rattle.std.specs.Prelude.{◌≡◌};
 ghost use Rattle.lra_audits.specs.declared.fault.RunFault.TheVariants.{Memory};
@@ -7,7 +7,7 @@ use lra_auditor::AuditorFault;
 use std::alloc::AllocError;
 use thiserror::Error;
 
-/// Why a run over a reader and a writer has no answer.
+/// The error of a run over a reader and a writer.
 #[derive(Clone, Copy, Debug, PartialEq, Eq, Error)]
 pub enum RunFault {
     #[error("the input can't be read")]

@@ -20,14 +20,14 @@ pub const LONGEST: usize = 1 << 30;
 /// The number of bytes that are asked for at a time.
 const PIECE: usize = 65_536;
 
-/// Room for one piece.
+/// Returns a buffer for one piece.
 pub fn room(alloc: Global) -> Result<Vec<u8>, AllocError>
     ensures { IfOk result (λ piece. vec_len piece ≡ PIECE) }
 {
     vec![in alloc; 0u8; PIECE]
 }
 
-/// Reads the next piece, and answers how many bytes it has: 0 at the end.
+/// Reads the next piece, and returns how many bytes it has: 0 at the end. Repeats a read that was interrupted.
 pub fn next_piece<R: Read>(reader: &mut R, piece: &mut [u8]) -> Result<usize, RunFault>
     ensures bound { ReadsAtMost result piece.new }
     ensures bytes { IfOk result (λ count. Consumes (R.remaining reader.old) (R.remaining reader.new)
@@ -45,7 +45,7 @@ pub fn next_piece<R: Read>(reader: &mut R, piece: &mut [u8]) -> Result<usize, Ru
     Err(RunFault::Read)
 }
 
-/// Gives a taker all that a reader gives, up to 2^30 bytes, piece by piece.
+/// Passes all that a reader gives to a taker, piece by piece, up to 2^30 bytes.
 pub fn give_pieces<R: Read, T: Taker>(
     alloc: Global,
     reader: &mut R,
@@ -88,7 +88,7 @@ fn feed_pieces<R: Read>(
     give_pieces(alloc, reader, auditor)
 }
 
-/// An auditor that was fed all that a reader gives, up to 2^30 bytes.
+/// Returns an auditor that was fed all that a reader gives, up to 2^30 bytes.
 pub fn feed_input<R: Read>(alloc: Global, reader: &mut R) -> Result<Auditor, RunFault>
     ensures fed { IfOk result (λ auditor. IfSome (R.remaining reader.old) (StandsFor auditor)) }
     ensures measured { IfSome (R.remaining reader.old) (IsMeasured result) }
@@ -99,7 +99,7 @@ pub fn feed_input<R: Read>(alloc: Global, reader: &mut R) -> Result<Auditor, Run
     Ok(auditor)
 }
 
-/// The verdict on all that a reader gives, up to 2^30 bytes.
+/// Returns the verdict on all that a reader gives, up to 2^30 bytes.
 pub fn audit_input<R: Read>(alloc: Global, reader: &mut R) -> Result<Verdict, RunFault>
     ensures verdict { IfOk result (λ verdict. IfSome (R.remaining reader.old) (λ all. IsVerdict all verdict)) }
     ensures measured { IfSome (R.remaining reader.old) (IsMeasured result) }

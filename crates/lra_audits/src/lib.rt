@@ -1,5 +1,5 @@
-//! The audit of a journal over any reader and writer: how an input is read, what is printed of its verdict, and why a
-//! run has no answer.
+//! The audit of a journal over any reader and writer: how an input is read, what is printed of its verdict, and the
+//! errors of a run.
 #![tactic(auto)]
 
 mod audit;

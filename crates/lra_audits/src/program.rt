@@ -1,4 +1,4 @@
-//! The program on a system, which opens files, and tells faults on standard error.
+//! The program on a system, which opens files, and prints faults on standard error.
 
 ghost use Rattle.std.specs.Prelude.{◌≡◌, IfOk, IfErr};
 
@@ -8,7 +8,7 @@ use std::alloc::AllocError;
 use std::fs;
 use std::rt::Files;
 
-/// The status of a run that has no answer.
+/// The status of a run with a fault.
 const FAULT: u8 = 2;
 
 /// Opens the file of a name.
@@ -18,8 +18,7 @@ pub fn open_file<R: Files>(rt: &R, name: &str) -> Result<R::File, RunFault>
     fs::open(rt, name).map_err(|_| RunFault::Read)
 }
 
-/// Prints the line of a fault on standard error, or that there was no memory for it. The answer is the program's
-/// status.
+/// Prints the line of a fault on standard error, or that there was no memory for it. Returns the program's status.
 pub fn tell<R: Eprint>(rt: &R, line: Result<String, AllocError>) -> u8
     ensures { result ≡ FAULT }
 {
@@ -30,7 +29,7 @@ pub fn tell<R: Eprint>(rt: &R, line: Result<String, AllocError>) -> u8
     FAULT
 }
 
-/// The status of a run on this input: what it answered, or that of its fault, which is told.
+/// Returns the status of a run on this input: what the run returned, or that of its fault, which is printed.
 pub fn settle<R: AllocGlobal + Eprint>(rt: &R, outcome: Result<u8, RunFault>, input: &str) -> u8
     ensures answered { IfOk outcome (λ status. result ≡ status) }
     ensures fault { IfErr outcome (λ _. result ≡ FAULT) }

@@ -33,7 +33,7 @@ fn count_of_ends(alloc: Global, summary: &Summary) -> Result<String, Memory>
     format!(in alloc; " closed {closed} cancelled {cancelled} failed {failed}\n")
 }
 
-/// The line that is printed of a fault.
+/// Returns the line that is printed of a fault.
 pub fn line_of_fault(alloc: Global, line: u64, rule: Rule) -> Result<String, Memory>
     ensures { IfOk result (λ text. string_bytes text ≡ fault_line line rule) }
 {
@@ -41,7 +41,7 @@ pub fn line_of_fault(alloc: Global, line: u64, rule: Rule) -> Result<String, Mem
     format!(in alloc; "unsound line {line} {rule}\n")
 }
 
-/// The lines that are printed of a verdict.
+/// Returns the lines that are printed of a verdict.
 pub(crate) fn report(alloc: Global, verdict: &Verdict) -> Result<String, Memory>
     ensures { IfOk result (λ text. string_bytes text ≡ report_of verdict.now) }
 {
@@ -58,7 +58,7 @@ pub(crate) fn report(alloc: Global, verdict: &Verdict) -> Result<String, Memory>
     }
 }
 
-/// The program's status for a verdict: 0 for a sound journal, else 1.
+/// Returns the program's status for a verdict: 0 for a sound journal, else 1.
 pub fn status(verdict: &Verdict) -> u8
     ensures { result ≡ status_of verdict.now }
 {

@@ -1,4 +1,4 @@
-//! The taker that an input is given to, piece by piece.
+//! The taker of an input, which comes piece by piece.
 
 ghost use Rattle.std.specs.Prelude.{◌≡◌, ◌+◌, ◌<◌, ◌^◌, ◌++◌, length, OnOk, IfErr};
 
@@ -11,16 +11,16 @@ pub trait Taker {
     ghost use Rattle.lra_audits.specs.declared.fault.RunFault.{RunFault};
     ghost use Rattle.lra_audits.specs.Faults.{IsOfOutput};
 
-    // Of what it was before and what it is after, that it took these bytes.
+    // It took these bytes between a state before and one after.
     ghost took: { Self → Self → List ℕ → Type 0 };
 
-    // How many bytes it has.
+    // The number of bytes that it has.
     ghost count: { Self → ℕ };
 
-    // The names of what it is lent, which stay.
+    // The names of what it borrows, which stay.
     ghost lent: { Self → List ℕ } = { λ _. [] };
 
-    // Why it may take no more.
+    // The faults with which it may refuse a piece.
     ghost fails: { RunFault → Type 0 };
 
     /// Takes one more piece.
@@ -36,7 +36,7 @@ pub trait Taker {
     ghost begins: { (first : Self) → took first first [] };
 }
 
-/// It is fed.
+/// An auditor is fed each piece.
 impl Taker for Auditor {
     ghost use Rattle.std.specs.Prelude.{◌≡◌};
     ghost use Rattle.lra_audits.specs.declared.fault.RunFault.TheVariants.{Memory};

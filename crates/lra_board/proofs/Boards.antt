@@ -1,4 +1,4 @@
--- What the marks of a board tell, and that they stay right as entries are carried out and taken back.
+-- What the indexed sets say, and that they stay right as entries are applied and undone.
 use Rattle.std.proofs.Common.{◌≡◌, ℕ, ◌+◌, ◌-◌, ◌≤◌, Bool, true, false, [], ◌∷◌, ◌++◌, Option, Some, None, refl, sym}
 use Rattle.std.proofs.Common.{ap, ◌∙◌, subst, arith}
 use Rattle.std.proofs.lemmas.Bool.{ltb-true, lt-ltb}
@@ -94,7 +94,7 @@ still_has_room e b c more skips turns ends h =
     and_intro (rows.has_room e c.rows) (marks_take e.deed c) (more k.0)
     (marks_still_take e.deed b c skips turns ends k.1)
 
--- the marks of a board take what its room says
+-- the indexed sets take what the room of a settling state says
 takes_is : (d : Deed) (r : Ready) (x : Rowed)
     → marks_take d (record { rows = x; skips = r.skips.room; turns = r.turns.room; ends = r.ends.room }) ≡ takes d r
 takes_is (Start a parent limit) r x = refl
@@ -106,7 +106,7 @@ pub takes_deed : (e : Entry) (x : Rowed) (r : Ready) → has_room e (record
 takes_deed e x r h = sym (takes_is e.deed r x) ∙ (both (rows.has_room e x)
     (marks_take e.deed (record { rows = x; skips = r.skips.room; turns = r.turns.room; ends = r.ends.room })) h).1
 
--- ---- an entry is carried out
+-- ---- an entry is applied
 
 pub carried_marks : (s u : Sheet) (J : History) (e : Entry) (r after : Ready) (h : StandsFor s J)
     → allows h.version h.is_address J e ≡ true → StandsFor u (J ++ e ∷ []) → MarkedBut s.state r [] [] → after
@@ -120,7 +120,7 @@ carried_marks s u J e r after h allowed k marked is =
     (grown_marked h.version h.is_address J e r h.legal allowed (subst (λ (x : Sheet). MarkedBut x.state r [] []) h.sheet
     marked)))
 
--- ---- an entry is taken back
+-- ---- an entry is undone
 
 after_it : (s u : Sheet) (e : Entry) (r : Ready) (f : Follows s e) → u ≡ sheet_after e s → MarkedBut u.state r [] []
     → MarkedBut (state_of (f.history ++ e ∷ [])) r [] []

@@ -1,4 +1,4 @@
--- After one more entry, and after it is taken back, the marks are right but for what its deed concerns.
+-- After one more entry, and after it is undone, the indexed sets are right but for what its deed concerns.
 use Rattle.std.proofs.Common.{◌≡◌, ◌≢◌, ℕ, zero, suc, ◌+◌, ◌-◌, inl, inr, Bool, true, false, List, [], ◌∷◌, ◌++◌}
 use Rattle.std.proofs.Common.{length, Option, Some, None, refl, sym, ap, ◌∙◌, subst, arith, length-append, append-nil}
 use Rattle.std.proofs.lemmas.Bool.{eqb-false, lt-ltb, cases_lt}
@@ -271,7 +271,7 @@ module _ (v : Version) (t : List ℕ → Bool) (J : History) (e : Entry) (r : Re
   is_told : Told J e.by e.deed
   is_told = told v t J e.by e.moment e.deed (allowed v t J e k)
 
-  -- the marks after an entry that is allowed
+  -- the sets after an entry that is allowed
   pub grown_marked : MarkedBut (state_of J) r [] [] → MarkedBut (state_of (J ++ e ∷ [])) (grown e.deed r)
       (members_concerned (J ++ e ∷ []) e.deed) (actions_concerned (J ++ e ∷ []) e.deed)
   grown_marked h =
@@ -281,7 +281,7 @@ module _ (v : Version) (t : List ℕ → Bool) (J : History) (e : Entry) (r : Re
       (sym (actions_concerned_push v t J l e.by e.moment e.deed is_told))
       (grown_by J e.by e.moment e.deed r is_told h (settles_push v t J e l k)))
 
-  -- the marks after it was taken back
+  -- the sets after it was undone
   pub shrunk_marked : MarkedBut (state_of (J ++ e ∷ [])) r [] [] → MarkedBut (state_of J) (shrunk e.deed r)
       (members_concerned J e.deed) (actions_concerned J e.deed)
   shrunk_marked h = shrunk_by J e.by e.moment e.deed r is_told h (Stays-sym (state_of J) (state_of (J ++ e ∷ []))

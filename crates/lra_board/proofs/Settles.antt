@@ -1,4 +1,4 @@
--- What settles next may be carried out, and leaves less to settle.
+-- What settles next may be applied, and leaves less to settle.
 use Rattle.std.proofs.Common.{◌≡◌, ℕ, zero, suc, ◌^◌, Bool, true, false, List, [], ◌∷◌, ◌++◌, Option, Some, None, refl}
 use Rattle.std.proofs.Common.{sym, ap, ◌∙◌, subst, append_assoc, append-nil}
 use Rattle.std.specs.Prelude.{nat_lt, ◌&&◌}
@@ -60,7 +60,7 @@ next_allowed b K by m d h next = allows_from h.stands.version h.stands.is_addres
 pub next_is_settling : (K : History) (d : Deed) → Some d ≡ next_settling K → is_settling d ≡ true
 next_is_settling K d next = next_settles K d (sym next)
 
--- one who wrote an entry may go on
+-- the clerk that wrote an entry may go on
 pub goes_on : (b : Boarded) (J : History) (e : Entry) (v : Version) (t : List ℕ → Bool)
     → (k : StandsFor b.rows.sheet (J ++ e ∷ [])) → MayWrite v t (J ++ e ∷ []) e.by e.moment
     → MayGoOn b (J ++ e ∷ []) e.by e.moment
@@ -83,7 +83,7 @@ settled (suc n) by m K none =
     ap (λ (o : Option Deed). option_map_or (λ (d : Deed). record { by = by; moment = m; deed = d }
     ∷ settling_within n by m (K ++ record { by = by; moment = m; deed = d } ∷ [])) o []) (sym none)
 
--- one settling entry is carried out
+-- one settling entry is applied
 pub settles_more : (J : History) (by m n : ℕ) (b after : Boarded) (es whole : List Entry) (d : Deed)
     → SettlesTo J by m (suc n) b es whole → Some d ≡ next_settling (J ++ es)
     → ((K : History) → MayGoOn b K by m → Some d ≡ next_settling K → MayGoOn after
@@ -108,7 +108,7 @@ pub settles_no_more : (J : History) (by m n : ℕ) (b : Boarded) (es whole : Lis
 settles_no_more J by m n b es whole h none = sym (h.left ∙ ap (λ (xs : List Entry). es ++ xs)
     (settled n by m (J ++ es) none) ∙ append-nil es)
 
--- all that there can be was carried out
+-- all that there can be was applied
 pub settles_all : (J : History) (by m n : ℕ) (b : Boarded) (es whole : List Entry) → SettlesTo J by m n b es whole → n
     ≡ 0 → es ≡ whole
 settles_all J by m n b es whole h none = sym (h.left ∙ ap (λ (k : ℕ). es ++ settling_within k by m (J ++ es)) none
@@ -133,7 +133,7 @@ settles_start J e b n by m es v t l k stands most is_by is_moment is_first =
     (subst (λ (xs : List Entry). SettlesTo J e.by e.moment n b xs (with_settling J e)) (sym is_first)
     (settles_first J e b n v t l k stands most)))
 
--- one whose entry was carried out may go on
+-- the clerk whose entry was applied may go on
 pub going_after : (s : Sheet) (e : Entry) (b : Boarded) (f : Follows s e) → StandsFor b.rows.sheet (f.history ++ e ∷ [])
     → Going b e.by e.moment
 going_after s e b f k = record {

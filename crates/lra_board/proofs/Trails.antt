@@ -1,4 +1,4 @@
--- The way back over entries that were carried out.
+-- The way back over entries that were applied.
 use Rattle.std.proofs.Common.{◌≡◌, ℕ, zero, suc, ◌≤◌, ◌<◌, true, List, [], ◌∷◌, ◌++◌, length, take, Some, inl, inr, ◌⊎◌}
 use Rattle.std.proofs.Common.{refl, sym, ap, ◌∙◌, subst, arith, length-append}
 use Rattle.std.proofs.lemmas.List.{take_all}
@@ -102,7 +102,7 @@ take_next {X = X} (y ∷ xs) zero x h = one y h
     one y h = let e : y ≡ x = cc in cc
 take_next (y ∷ xs) (suc i) x h = ap (λ ys. y ∷ ys) (take_next xs i x h)
 
--- the last one that is left can be taken back
+-- the last one that is left can be undone
 pub last_came : (b : Boarded) (es : List Entry) (ks : List Step) (last now : Boarded) (e : Entry) (k : Step) (i n : ℕ)
     → IsTrail b es ks last → n ≡ suc i → slice_get es i ≡ Some e → slice_get ks i ≡ Some k → now
     ≡ carried_all b (take n es) → CameBy e k now
@@ -143,7 +143,7 @@ trail_none b es ks no_entry no_step =
           λ i e k h g. absurd cc;
     }))
 
--- the board after an entry stands for the longer history
+-- the settling state after an entry stands for the longer history
 pub carried_stands : (s : Sheet) (b after : Boarded) (J : History) (e : Entry) (h : StandsFor s J)
     → allows h.version h.is_address J e ≡ true → b.rows.sheet ≡ s → after ≡ carried e b
     → StandsFor after.rows.sheet (J ++ e ∷ [])

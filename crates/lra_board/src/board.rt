@@ -37,7 +37,7 @@ impl Model for Board {
     ghost invariant = { λ b. MarkedBut b.rows.sheet.state b.ready [] [] };
 }
 
-/// Returns what its parent does to the action, if there is one.
+/// Returns what an action's parent does to it, if there is an action and its parent does anything.
 fn turned(rows: &Rows, action: Option<u64>) -> Option<Deed>
     ensures { result ≡ option_and_then (turn_by rows.now.sheet.state) action }
 {
@@ -47,7 +47,7 @@ fn turned(rows: &Rows, action: Option<u64>) -> Option<Deed>
     }
 }
 
-/// The end of the action, if there is one.
+/// Returns the end of an action, if there is one and it may end.
 fn ended(rows: &Rows, action: Option<u64>) -> Option<Deed>
     ensures { result ≡ option_and_then (end_by rows.now.sheet.state) action }
 {
@@ -57,7 +57,7 @@ fn ended(rows: &Rows, action: Option<u64>) -> Option<Deed>
     }
 }
 
-/// The skip of a member; else what its parent does to an action; else the end of an action.
+/// Returns the skip of a member; else what its parent does to an action; else the end of an action.
 fn choose(rows: &Rows, skip: Option<u64>, turn: Option<u64>, end: Option<u64>) -> Option<Deed>
     ensures { result ≡ option_or (option_map deeds.Skip skip) (option_or
         (option_and_then (turn_by rows.now.sheet.state) turn) (option_and_then (end_by rows.now.sheet.state) end)) }
@@ -82,7 +82,7 @@ impl Board {
     ghost use Rattle.lra_rows.specs.Steps.{addresses_back};
     ghost use Rattle.lra_board.specs.Boarded.{has_room, carried, uncarried, CameBy};
 
-    /// Of no entries.
+    /// Returns the settling state of no entries.
     pub fn empty(alloc: Global) -> Board
         ensures { StandsFor result.rows.sheet [] }
     {
@@ -98,7 +98,7 @@ impl Board {
         &self.rows
     }
 
-    /// Makes room for one more entry: it can then be carried out with no memory. What could be before still can.
+    /// Makes room for one more entry: it can then be applied with no memory. What could be applied before still can.
     pub fn reserve(&mut self, entry: &Entry) -> Result<(), Memory>
         ensures same { self.new.rows.sheet ≡ self.old.rows.sheet }
         ensures ok { OnOk result (has_room entry.now self.new ≡ true) }
@@ -109,8 +109,8 @@ impl Board {
         self.ready.reserve(&entry.deed)
     }
 
-    /// One more entry, which is allowed after those that the board stands for, and has room: it takes no memory. The
-    /// addresses of a member that joins are handed in.
+    /// Applies one more entry, which is allowed after those that the rows stand for, and has room: this takes no
+    /// memory. The addresses of a member that joins are handed in. Returns the step that undoes the entry.
     pub fn carry(&mut self, entry: &Entry, uris: Option<Packed>) -> Step
         requires follows { Follows self.old.rows.sheet entry.now }
         requires room { has_room entry.now self.old ≡ true }
@@ -127,8 +127,8 @@ impl Board {
         step
     }
 
-    /// Takes the entry that was carried out last back, by its step, and gives the addresses of the member that joined
-    /// by it: the board is as before it, and has the room that it had. This takes no memory.
+    /// Undoes the entry that was applied last, by its step, and returns the addresses of the member that joined by it:
+    /// all is as before the entry, and there is the room that there was. This takes no memory.
     pub fn take_back(&mut self, entry: &Entry, step: Step) -> Option<Packed>
         requires { CameBy entry.now step self.old }
         ensures back { self.new ≡ uncarried entry.now step self.old }
@@ -140,8 +140,9 @@ impl Board {
         uris
     }
 
-    /// Returns what a coordinator does next of itself: the skip of the least member that may be skipped; else what its
-    /// parent does to the least action to which it does anything; else the end of the greatest action that may end.
+    /// Returns what a coordinator does next of itself: the skip of the least member that may be skipped; else what the
+    /// parent does to the least action to which a parent does anything; else the end of the greatest action that may
+    /// end.
     pub fn next_settling(&self) -> Option<Deed>
         ensures { (J : History) → StandsFor self.now.rows.sheet J → result ≡ next_settling J }
     {

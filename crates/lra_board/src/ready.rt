@@ -1,4 +1,4 @@
-//! Which rows are ready to settle.
+//! The rows that are ready to settle.
 
 ghost use Rattle.std.specs.Prelude.{
   ◌≡◌,
@@ -29,7 +29,7 @@ use lra_model::{Deed, Memory};
 use lra_rows::Rows;
 use std::alloc::Global;
 
-/// Which members may be skipped, to which actions their parent does something, and which actions may end.
+/// The members that may be skipped, the actions to which their parent does something, and the actions that may end.
 #[derive(Drop)]
 pub(crate) struct Ready {
     pub(crate) skips: Marks,
@@ -37,7 +37,7 @@ pub(crate) struct Ready {
     pub(crate) ends: Marks,
 }
 
-/// Returns whether its parent does something to an action.
+/// Returns whether an action's parent does something to it.
 fn is_turned(rows: &Rows, action: u64) -> bool
     ensures { result ≡ is_some (turn_by rows.now.sheet.state action) }
 {
@@ -50,7 +50,7 @@ fn may_end(rows: &Rows, action: u64) -> bool
     rows.end(action).is_some()
 }
 
-/// The parent of an action, where it has one.
+/// Returns the parent of an action, where it has one.
 fn parent_of(rows: &Rows, action: u64) -> Option<u64>
     ensures { (K : History) → StandsFor rows.now.sheet K → result ≡ parent K action }
 {
@@ -60,7 +60,7 @@ fn parent_of(rows: &Rows, action: u64) -> Option<u64>
     }
 }
 
-/// The member that was asked.
+/// Returns the member that was asked, if the ask was made.
 fn member_asked(rows: &Rows, ask: u64) -> Option<u64>
     ensures { (K : History) → StandsFor rows.now.sheet K → result ≡ option_map (λ (x : Asked). x.member)
         (ask_of K ask) }
@@ -72,7 +72,7 @@ fn member_asked(rows: &Rows, ask: u64) -> Option<u64>
 }
 
 impl Ready {
-    /// Looks at a member anew.
+    /// Marks anew whether a member may be skipped.
     fn mark_member(&mut self, rows: &Rows, member: u64)
         ensures marked { (ps xs : List ℕ) → MarkedBut rows.now.sheet.state self.old (member ∷ ps) xs
             → MarkedBut rows.now.sheet.state self.new ps xs }
@@ -83,7 +83,7 @@ impl Ready {
         }
     }
 
-    /// Looks at an action anew.
+    /// Marks anew whether an action's parent does something to it, and whether it may end.
     fn mark_action(&mut self, rows: &Rows, action: u64)
         ensures marked { (ps xs : List ℕ) → MarkedBut rows.now.sheet.state self.old ps (action ∷ xs)
             → MarkedBut rows.now.sheet.state self.new ps xs }
@@ -95,7 +95,7 @@ impl Ready {
         }
     }
 
-    /// Looks at an action anew, if there is one.
+    /// Marks an action anew, if there is one.
     fn mark_any(&mut self, rows: &Rows, action: Option<u64>)
         ensures marked { (ps xs : List ℕ) → MarkedBut rows.now.sheet.state self.old ps (option_to_list action ++ xs)
             → MarkedBut rows.now.sheet.state self.new ps xs }
@@ -106,7 +106,7 @@ impl Ready {
         }
     }
 
-    /// Looks at some members anew.
+    /// Marks some members anew.
     fn mark_members(&mut self, rows: &Rows, members: &[u64])
         ensures marked { (ps xs : List ℕ) → MarkedBut rows.now.sheet.state self.old (members.now ++ ps) xs
             → MarkedBut rows.now.sheet.state self.new ps xs }
@@ -117,7 +117,7 @@ impl Ready {
         }
     }
 
-    /// Looks at some actions anew.
+    /// Marks some actions anew.
     fn mark_actions(&mut self, rows: &Rows, actions: &[u64])
         ensures marked { (ps xs : List ℕ) → MarkedBut rows.now.sheet.state self.old ps (actions.now ++ xs)
             → MarkedBut rows.now.sheet.state self.new ps xs }
@@ -128,7 +128,7 @@ impl Ready {
         }
     }
 
-    /// Looks at a member and its action anew.
+    /// Marks a member and its action anew.
     fn mark_with_action(&mut self, rows: &Rows, member: u64)
         ensures marked { (K : History) → StandsFor rows.now.sheet K → MarkedBut rows.now.sheet.state self.old
             (member ∷ []) (action_of K member ∷ []) → MarkedBut rows.now.sheet.state self.new [] [] }
@@ -140,7 +140,7 @@ impl Ready {
         }
     }
 
-    /// Looks at an action anew, at its parent, and at all that stands in it.
+    /// Marks an action, its parent, its children and its members anew.
     fn mark_around(&mut self, rows: &Rows, action: u64)
         ensures marked { (K : History) → StandsFor rows.now.sheet K → MarkedBut rows.now.sheet.state self.old
             (members_of K action) (around K action) → MarkedBut rows.now.sheet.state self.new [] [] }
@@ -152,7 +152,7 @@ impl Ready {
         self.mark_members(rows, rows.members(action));
     }
 
-    /// Looks anew at all that a deed concerns.
+    /// Marks all that a deed concerns anew.
     pub(crate) fn mark(&mut self, rows: &Rows, deed: &Deed)
         ensures marked { (K : History) → StandsFor rows.now.sheet K → MarkedBut rows.now.sheet.state self.old
             (members_concerned K deed.now) (actions_concerned K deed.now)
@@ -186,7 +186,7 @@ impl Ready {
         }
     }
 
-    /// Of no rows.
+    /// Returns the settling index of no rows.
     pub(crate) fn new(alloc: Global) -> Ready
         ensures { (s : State) → s.members ≡ [] → s.actions ≡ [] → MarkedBut s result [] [] }
     {
@@ -213,7 +213,7 @@ impl Ready {
         }
     }
 
-    /// Takes in what a deed brings, for which there is room. It isn't ready yet.
+    /// Adds what a deed brings, for which there is room. It isn't ready yet.
     pub(crate) fn grow(&mut self, deed: &Deed)
         requires { takes deed.now self.old ≡ true }
         ensures { self.new ≡ grown deed.now self.old }
@@ -228,7 +228,7 @@ impl Ready {
         }
     }
 
-    /// Lets go of what a deed brought.
+    /// Removes what a deed brought.
     pub(crate) fn shrink(&mut self, deed: &Deed)
         requires { has_numbers deed.now self.old ≡ true }
         ensures { self.new ≡ shrunk deed.now self.old }

@@ -1,4 +1,4 @@
-//! An entry with all that settles after it, looked ahead and taken back.
+//! An entry with all that settles after it, applied to look ahead, and then undone.
 
 ghost use Rattle.std.specs.Prelude.{
   ◌≡◌,
@@ -31,7 +31,7 @@ pub struct Ahead {
     pub uris: Option<Packed>,
 }
 
-/// Entries that were carried out one after another, and the steps that take them back.
+/// Entries that were applied one after another, and the steps that undo them.
 #[derive(Drop)]
 struct Trail {
     entries: Vec<Entry>,
@@ -105,7 +105,7 @@ impl Board {
     ghost use Rattle.lra_board.specs.Boarded.{Boarded, has_room, carried, uncarried, CameBy};
     ghost use Rattle.lra_board.specs.inner.Trail.{IsTrail, HasTrail, MayGoOn, GoesOn, Going, SettlesTo};
 
-    /// Carries an entry out, for which the trail has room.
+    /// Applies an entry, for which the undo log has room.
     fn follow(&mut self, trail: &mut Trail, entry: Entry, uris: Option<Packed>)
         requires follows { Follows self.old.rows.sheet entry }
         requires room { has_room entry self.old ≡ true }
@@ -121,8 +121,8 @@ impl Board {
         trail.push(entry, step);
     }
 
-    /// Takes all entries of a trail back, the last one first, and gives the addresses of the member that joined by the
-    /// first of them.
+    /// Undoes all entries of an undo log, the last one first, and returns the addresses of the member that joined by
+    /// the first of them.
     fn go_back(&mut self, trail: &Trail) -> Option<Packed>
         requires { HasTrail trail.now.entries.items trail.now.steps.items self.old }
         ensures back { (b : Boarded) → IsTrail b trail.now.entries.items trail.now.steps.items self.old → self.new ≡ b }
@@ -147,7 +147,7 @@ impl Board {
         }
     }
 
-    /// Returns how many entries there can be that settle, where they can be counted.
+    /// Returns how many entries can settle at most; `Memory` where they can't be counted.
     fn most_settling(&self) -> Result<u64, Memory>
         ensures { IfOk result (λ n. (K : History) → StandsFor self.now.rows.sheet K → n ≡ most_settling K) }
     {
@@ -159,7 +159,7 @@ impl Board {
         }
     }
 
-    /// Carries the deed out that settles next.
+    /// Applies the deed that settles next.
     fn settle_next(
         &mut self,
         by: u32,
@@ -181,7 +181,7 @@ impl Board {
         Ok(())
     }
 
-    /// Carries out all that settles, at most so many entries.
+    /// Applies all that settles, at most so many entries.
     fn settle_all(
         &mut self,
         by: u32,
@@ -216,8 +216,8 @@ impl Board {
         self.settle_all(by, moment, most, trail)
     }
 
-    /// An entry that is allowed now, and all that settles after it, with room made for the entry, and the addresses of
-    /// the member that joins by it. The board stays as it is, also where memory was refused.
+    /// Returns an entry that is allowed now, and all that settles after it, with the addresses of the member that joins
+    /// by it. Makes room for the entry. The rows stay as they are, also where memory was refused.
     pub fn plan(&mut self, entry: Entry, alloc: Global) -> Result<Ahead, Memory>
         requires { Follows self.old.rows.sheet entry }
         ensures same { self.new.rows.sheet ≡ self.old.rows.sheet }

@@ -44,7 +44,7 @@ use Rattle.lra_commands.proofs.KeepsGrounds.{NoneHolds}
 use Rattle.lra_commands.proofs.KeepsAddresses.{stored_fit}
 use Rattle.lra_commands.proofs.KeepsLate.{IsLate, late_is}
 
--- who writes may write: legal, enrolled, and not before the last moment
+-- the clerk that writes may write: legal, enrolled, and not before the last moment
 abbrev pub Writes : Terms → History → ℕ → ℕ → Type 0
 Writes s J by m = MayWrite s.version is_address J by m
 

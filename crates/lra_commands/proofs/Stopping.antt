@@ -1,5 +1,5 @@
--- The definitions never answer that the scribe has stopped, nor that no memory is left: those are for whoever writes
--- the journal, or takes memory, to say.
+-- The definitions never answer that the scribe has stopped, nor that no memory is left: those are for the code that
+-- writes the journal, or takes memory, to say.
 use Rattle.std.proofs.Common.{◌≡◌, ◌≢◌, ℕ, Bool, true, false, Option, Some, None, Ok, Err, inl, inr, refl, ap}
 use Rattle.std.specs.Option.{option_map_or}
 use Rattle.lra_model.specs.History.{History}

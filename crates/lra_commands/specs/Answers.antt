@@ -1,4 +1,4 @@
--- What a call is answered, and the history after it.
+-- The answer to a call, and the history after it.
 use Rattle.std.specs.Prelude.{◌≢◌, ℕ, List, [], ◌++◌, length, Result, Ok, Err, is_some, cond}
 use Rattle.std.specs.Option.{option_map_or}
 use Rattle.lra_model.specs.declared.entry.Entry.{Entry}
@@ -18,8 +18,8 @@ use Rattle.lra_model.specs.Joins.{already_member}
 use Rattle.lra_commands.specs.Blocks.{block}
 use Rattle.lra_commands.specs.Refusals.{status_at, refused}
 
--- what a command is told, where it isn't refused: J is the history before it, and K the one after; a status after what
--- was written is that in K
+-- the answer to a command that isn't refused: J is the history before it, and K the one after; a status after what was
+-- written is that in K
 abbrev pub tells : Terms → History → History → ℕ → Command → Told
 tells s J K m command.Enrol = told.Clerk (length (clerks K))
 tells s J K m (command.Start parent limit) = told.Action (length (actions K))
@@ -39,11 +39,11 @@ tells s J K m (command.Renew a limit) = told.Renewed
 tells s J K m (command.Status a) = told.ActionIs (status_at J a)
 tells s J K m (command.MemberStatus p) = told.MemberIs (member_status J p)
 
--- what a call is told, where it isn't refused
+-- the answer to a call that isn't refused
 abbrev pub told_of : Terms → History → Call → Told
 told_of s J c = tells s J (J ++ block s J c) (moment_of J c) c.command
 
--- the answer to a call: the first refusal that holds, else what it is told
+-- the answer to a call: the first refusal that holds, else the answer to a call that isn't refused
 unfoldable pub answer : Terms → History → Call → Result Told Refusal
 answer s J c = option_map_or Err (refused s J c) (Ok (told_of s J c))
 

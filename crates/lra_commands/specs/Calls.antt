@@ -23,7 +23,7 @@ pub record Call : Type 0 where
 abbrev pub moment_of : History → Call → ℕ
 moment_of J c = max c.moment (last_moment J)
 
--- whether bytes that may be there are a text
+-- whether optional bytes are a text
 abbrev pub is_text : Option (List ℕ) → Bool
 is_text text = option_map_or is_utf8 text true
 

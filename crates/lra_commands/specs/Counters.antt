@@ -1,4 +1,4 @@
--- What a counter is told and what its callers know of the history behind it.
+-- What a counter replies and what its callers know of the history behind it.
 use Rattle.std.specs.Prelude.{◌≡◌, ◌≢◌, ◌==◌, ℕ, ◌≤◌, ◌<◌, ◌^◌, List, [], ◌++◌, filter, Result, Ok, Err, IsOk, ⊤}
 use mathlib.Core.List.{IsPrefix}
 use Rattle.lra_model.specs.declared.entry.Entry.{Entry}
@@ -30,7 +30,7 @@ pub record Setting : Type 0 where
   pub base : List ℕ
   pub limits : Limits
 
--- what its answers depend on beside the history
+-- what its answers depend on besides the history
 abbrev pub terms_of : Setting → Terms
 terms_of s = record { version = s.version; limits = s.limits }
 
@@ -59,14 +59,14 @@ command_of (order.MemberStatus member) = command.MemberStatus member
 abbrev pub call_of : ℕ → ℕ → Order → Call
 call_of number moment o = record { by = number; moment = moment; command = command_of o }
 
--- why an order is refused at a history: the definitions refuse it; or what it would write can't be kept; or a growth
--- was refused, where it takes memory and nothing that comes before that refuses it
+-- why an order is refused at a history: the definitions refuse it; or what it would write can't be kept; or memory was
+-- refused, where it takes some and nothing that comes before that refuses it
 abbrev pub IsRefusedAt : Terms → History → Call → Refusal → Type 0
 IsRefusedAt s J c refusal.Stopped = IsOk (answer s J c) × (block s J c ≢ [])
 IsRefusedAt s J c refusal.Memory = MayRunOut s J c
 IsRefusedAt s J c r = answer s J c ≡ Err r
 
--- what is told of an order at a history, and the history after it: a reply of the definitions, or the order wasn't done
+-- the reply to an order at a history, and the history after it: the definitions' answer, or why the order wasn't done
 abbrev pub IsToldAt : Terms → History → Call → Result Told CounterFault → History → Type 0
 IsToldAt s J c (Ok told) K = (answer s J c ≡ Ok told) × (K ≡ after_call s J c)
 IsToldAt s J c (Err (Refused r)) K = IsRefusedAt s J c r × (K ≡ J)
@@ -84,13 +84,13 @@ pub record IsGivenAt (s : Setting) (J : History) (c : Call) (reply : Result Told
 abbrev pub entries_under : ℕ → History → History
 entries_under number J = filter (λ (e : Entry). e.by == number) J
 
--- some history began with what was seen, since others may have written meanwhile, though nothing under the clerk's
--- number, and the order was given at it
+-- the order was given at a history that begins with what was seen: others may have written meanwhile, but nothing under
+-- the clerk's number
 abbrev pub IsGivenSince : Setting → History → Call → Result Told CounterFault → History → Type 0
 IsGivenSince s seen c reply K = (since : History) × (entries_under c.by since ≡ [])
     × IsGivenAt s (seen ++ since) c reply K
 
--- what is seen after an order: a counter that is worn tells nothing of the history
+-- what is seen after an order: a counter that is worn shows nothing of the history
 abbrev pub IsSeenAfter : Setting → History → Call → Result Told CounterFault → History → Type 0
 IsSeenAfter s seen c (Err Worn) K = K ≡ seen
 IsSeenAfter s seen c reply K = IsGivenSince s seen c reply K
@@ -106,7 +106,7 @@ pub record KeepsHistory (before : Sight) (moment : ℕ) (o : Order) (reply : Res
   pub same : IsSameCounter before after
   pub seen : IsSeenAfter before.setting before.seen (call_of before.number moment o) reply after.seen
 
--- what a counter of its own keeps, where nobody else writes: the order is given at the very history that it has seen,
+-- what a counter of its own keeps, where nothing else writes: the order is given at the very history that it has seen,
 -- and it is never worn
 pub record OwnsHistory (before : Sight) (moment : ℕ) (o : Order) (reply : Result Told CounterFault)
     (after : Sight) : Type 0 where
@@ -118,7 +118,7 @@ pub record OwnsHistory (before : Sight) (moment : ℕ) (o : Order) (reply : Resu
 abbrev pub IsIdentifiable : ℕ → Type 0
 IsIdentifiable n = (1 ≤ n) × (n < 2 ^ 62)
 
--- what an order can be told: one kind of answer, and numbers that identifiers can have
+-- the answers that an order can get; an identifier can have the number in the answer to a start or a join
 abbrev pub CanTell : Order → Told → Type 0
 CanTell (order.Start parent limit) (told.Action n) = IsIdentifiable n
 CanTell (order.Join action uris) (told.Member n) = IsIdentifiable n
@@ -138,7 +138,7 @@ CanTell (order.Status action) (told.ActionIs status) = ⊤
 CanTell (order.MemberStatus member) (told.MemberIs status) = ⊤
 CanTell _ _ = ⊥
 
--- whatever a counter tells of an order is what such an order can be told
+-- each answer of a counter is one that its order can get
 abbrev pub CountersTell : Type 0
 CountersTell = (before after : Sight) (moment : ℕ) (o : Order) (t : Told) → KeepsHistory before moment o (Ok t) after
     → CanTell o t

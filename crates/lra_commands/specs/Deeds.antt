@@ -56,7 +56,7 @@ outcome_told ending.FailedToComplete = outcome.Failed
 outcome_told ending.Compensated = outcome.Done
 outcome_told ending.FailedToCompensate = outcome.Failed
 
--- whether a member has told of an ending's direction, or was found out
+-- whether the direction of an ending is decided for a member
 abbrev pub is_decided : History → ℕ → Ending → Bool
 is_decided J p e = is_some (decided J p (direction_told e))
 
@@ -89,7 +89,7 @@ own_deed s J m (command.Renew a limit) = Some (deed.Renew a limit)
 own_deed s J m (command.Status a) = None
 own_deed s J m (command.MemberStatus p) = None
 
--- whose entries a call writes: a new clerk's where it enrols, else the clerk's that gives it
+-- the clerk whose entries a call writes: the new one where it enrols, else the one that gives it
 abbrev pub writer_of : History → Call → ℕ
 writer_of J c = by_command c.command
   where

@@ -32,7 +32,7 @@ abbrev pub first_due : ℕ → List Timed → Option ℕ
 first_due now xs = option_map (λ (x : Timed). x.number)
     (earliest (filter_map (λ (x : Timed). when (nat_le x.moment now) x) xs))
 
--- when a want is due that was repeated so often, the last time at that moment: at once, or after a pause
+-- when a want is due after so many attempts, the last one at that moment: at once, or after a pause
 abbrev pub due_after : Limits → ℕ → Option ℕ → ℕ
 due_after l zero before = 0
 due_after l (suc k) before = min (unwrap_or before 0 + pause l.retry_base l.retry_cap (suc k)) (2 ^ 64 - 1)
@@ -41,7 +41,7 @@ due_after l (suc k) before = min (unwrap_or before 0 + pause l.retry_base l.retr
 abbrev pub stage_wanted : History → ℕ → AskKind → AskKind
 stage_wanted J p kind = stage_of kind (ask_direction J p kind)
 
--- when a member wants what it wants
+-- a member, with the moment from which what it wants is due
 abbrev pub want_of : Limits → History → ℕ → Option Timed
 want_of l J p =
     option_map (λ (kind : AskKind). record {

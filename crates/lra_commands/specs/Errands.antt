@@ -1,4 +1,4 @@
--- What an errand says.
+-- The contents of an errand.
 use Rattle.std.specs.Prelude.{ℕ, List, [], Option, None, option_map, unwrap_or}
 use Rattle.lra_model.specs.declared.status.ActionStatus.{ActionStatus}
 use Rattle.lra_model.specs.declared.asks.AskKind.{AskKind}
@@ -32,13 +32,13 @@ address_for ask.Status u = u.status
 address_for ask.Forget u = u.forget
 address_for ask.After u = u.after
 
--- what an ask of a kind tells of how the action ended: an after notice tells it, and no other does (MicroProfile LRA
--- 2.0, AfterLRA)
+-- the status in which the action ended, where an ask of a kind reports it: an after notice does, and no other
+-- (MicroProfile LRA 2.0, AfterLRA)
 abbrev pub told_of_end : AskKind → Option ActionStatus → Option ActionStatus
 told_of_end ask.After status = status
 told_of_end _ status = None
 
--- what the errand of an ask says, by the history before it and the coordinator's instance and base (MicroProfile LRA
+-- the contents of an ask's errand, by the history before it and the coordinator's instance and base (MicroProfile LRA
 -- 2.0, participant methods; the URIs are this project's choice)
 abbrev pub asking_of : ℕ → List ℕ → History → Asked → Asking
 asking_of instance base J x = record {

@@ -1,4 +1,4 @@
--- What a call gives beside its answer: the errand of an ask.
+-- What a call gives besides its answer: the errand of an ask.
 use Rattle.std.specs.Prelude.{◌≡◌, Option, Some, option_map}
 use Rattle.std.specs.Option.{option_and_then}
 use Rattle.lra_model.specs.declared.entry.Entry.{Entry}
@@ -9,7 +9,7 @@ use Rattle.lra_commands.specs.Calls.{Call}
 use Rattle.lra_commands.specs.Deeds.{own_entry}
 use Rattle.lra_commands.specs.Counters.{Setting, terms_of}
 
--- the errand of an entry that comes after a history: an ask is carried by one
+-- the errand of an entry that comes after a history: only an ask has one
 abbrev pub errand_for : Setting → History → Entry → Option Asking
 errand_for g J e = option_map (asking_of g.instance g.base J) (asked_at (record { past = J; entry = e }))
 

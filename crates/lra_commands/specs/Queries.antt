@@ -1,4 +1,4 @@
--- What a query is told.
+-- The results of queries.
 use Rattle.std.specs.Prelude.{◌≡◌, ◌⊎◌, ℕ, zero, suc, ◌+◌, ◌<◌, nat_lt, Bool, true, false, ◌&&◌, not, List, [], ◌∷◌}
 use Rattle.std.specs.Prelude.{◌++◌, length, take, drop, map, filter, Option, Some, None, option_map, Result, Ok, Err}
 use Rattle.std.specs.Prelude.{cond}
@@ -48,11 +48,11 @@ most_rows = 256
 abbrev pub looked_at : {X : Type 0} → List X → ℕ → List X
 looked_at xs place = take most_rows (drop place xs)
 
--- what is told where none of the rows looked at passes: where to go on, unless those were the last
+-- the result where none of the rows looked at passes: where to go on, unless those were the last
 abbrev pub none_told : {X : Type 0} → Known → List X → ℕ → Known
 none_told last xs place = cond (nat_lt (place + most_rows) (length xs)) (known.Further (place + most_rows)) last
 
--- what is told of rows from a place on: the first of those looked at that passes a test, with its place (this project's
+-- the result for rows from a place on: the first of those looked at that passes a test, with its place (this project's
 -- choice)
 abbrev pub first_from : {X : Type 0} → (X → Bool) → (ℕ → X → Known) → Known → List X → ℕ → Known
 first_from test told last xs place = option_map_or (told (place + position_or_len test (looked_at xs place)))
@@ -81,8 +81,7 @@ awaited_from J a place = first_from (holds_end (status_at J a) J) known.Awaits k
 
 -- ---- listings
 
--- what a member is to be asked next: how often it was asked for that in vain, and from when on it is asked again (this
--- project's choice)
+-- what a member is to be asked next: the number of attempts, and from when on it is asked again (this project's choice)
 abbrev pub want_told : Limits → History → ℕ → Option Want
 want_told l J p =
     option_map
@@ -128,19 +127,19 @@ unfoldable pub count_from : Limits → History → Listing → ℕ → Known
 count_from l J x place = known.Counted (length (filter (belongs x) (looked_at (rows_along l J x) place)))
     (next_of (length (rows_along l J x)) place)
 
--- whether what a listing is of is there: its action, where it is of one
+-- whether the action of a listing is there, where it is of one
 abbrev pub is_listed : History → Listing → Bool
 is_listed J (listing.Members a) = is_among (actions J) a
 is_listed J (listing.Nested a) = is_among (actions J) a
 is_listed J (listing.Actions status) = true
 
--- ---- what each query is told
+-- ---- the result of each query
 
--- what is told of something that is there, or else that it isn't
+-- the result for something that is there, or else the refusal since it isn't
 abbrev pub known_where : Bool → Known → Refusal → Result Known Refusal
 known_where there k r = cond there (Ok k) (Err r)
 
--- what a query is told of a history, which nothing else decides but the pauses between asks; it changes nothing (this
+-- the result of a query: the history and the pauses between asks alone decide it, and it changes nothing (this
 -- project's choice)
 unfoldable pub tell : Limits → History → Query → Result Known Refusal
 tell l J (query.ActionStatus a) = known_where (is_among (actions J) a) (known.ActionIs (status_at J a))
@@ -159,24 +158,24 @@ asks (command.Status a) = Some (query.ActionStatus a)
 asks (command.MemberStatus p) = Some (query.MemberStatus p)
 asks _ = None
 
--- what is known, as a command is told it; no command asks for rows
+-- the result of a query, as a command's answer; no command asks for rows
 abbrev pub told_as : Known → Told
 told_as (known.ActionIs status) = told.ActionIs status
 told_as (known.MemberIs status) = told.MemberIs status
 told_as _ = told.Idle
 
--- what a query is told, as a command is answered it
+-- the result of a query, or its refusal, as the answer to a command
 abbrev pub answer_as : Result Known Refusal → Result Told Refusal
 answer_as (Ok k) = Ok (told_as k)
 answer_as (Err r) = Err r
 
--- a command that only asks is answered what the query is told, where its clerk is enrolled, and appends nothing
+-- a command that only asks gets the result of its query as its answer, where its clerk is enrolled, and appends nothing
 abbrev pub CommandsAsk : Type 0
 CommandsAsk = (s : Terms) (J : History) (c : Call) (q : Query) → asks c.command ≡ Some q
     → (answer s J c ≡ cond (is_among (clerks J) c.by) (answer_as (tell s.limits J q)) (Err refusal.NoSuchClerk))
     × (block s J c ≡ [])
 
--- a query is refused only since what it asks about isn't there
+-- a query is refused only because what it asks about isn't there
 abbrev pub QueriesMiss : Type 0
 QueriesMiss = (l : Limits) (J : History) (q : Query) (r : Refusal) → tell l J q ≡ Err r → (r ≡ refusal.NoSuchAction)
     ⊎ (r ≡ refusal.NoSuchMember)
@@ -186,24 +185,24 @@ abbrev pub RowsHoldEnds : Type 0
 RowsHoldEnds = (J : History) (a : ℕ) (status : ActionStatus) → (status ≡ action.Closing) ⊎ (status ≡ action.Cancelling)
     → settles (Some status) J a ≡ not (list_any (holds_end status J) (rows_of J a))
 
--- the rows that are told from what one query was told on: its row and what is told from the place after it, or what is
--- told from where to go on
+-- the rows that are returned from the result of one query on: its row and those from the place after it, or those from
+-- where to go on
 abbrev pub rows_after : (ℕ → List Row) → Known → List Row
 rows_after on (known.Row place r) = r ∷ on (place + 1)
 rows_after on (known.Further place) = on place
 rows_after on _ = []
 
--- the rows that are told where a listing is asked for again and again, at most so many times
+-- the rows that are returned where a listing is asked for again and again, at most so many times
 abbrev pub told_on : ℕ → Limits → History → Listing → ℕ → List Row
 told_on zero l J x place = []
 told_on (suc n) l J x place = rows_after (told_on n l J x) (row_from l J x place)
 
--- a listing that is asked for so is told whole: each row that belongs to it, once, in order
+-- a listing that is asked for so is returned whole: each row that belongs to it, once, in order
 abbrev pub ListingsAreToldWhole : Type 0
 ListingsAreToldWhole = (l : Limits) (J : History) (x : Listing) (n : ℕ) → length (rows_along l J x) < n
     → told_on n l J x 0 ≡ filter (belongs x) (rows_along l J x)
 
--- how many rows are counted from what one query was told on, with what is counted from where to go on
+-- how many rows are counted from the result of one query on, with those from where to go on
 abbrev pub counted_after : (ℕ → ℕ) → Known → ℕ
 counted_after on (known.Counted count (Some place)) = count + on place
 counted_after on (known.Counted count None) = count

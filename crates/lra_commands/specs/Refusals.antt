@@ -70,7 +70,7 @@ is_of e x = (x.member == e.member) && same_kind x.kind e.kind && same_direction 
 abbrev pub is_asked : History → Asking → Bool
 is_asked J e = is_outstanding J e.ask && option_map_or (is_of e) (ask_of J e.ask) false
 
--- whether a member is being asked for the direction of the ending that it tells
+-- whether a member is being asked for the direction of the ending that it reports
 abbrev pub is_asked_for : History → ℕ → Ending → Bool
 is_asked_for J p e = cond (same_direction (direction_told e) direction.Completion) (is_completing (member_status J p))
     (is_compensating (member_status J p))
@@ -140,7 +140,7 @@ command_grounds s J m (command.Renew a limit) =
 command_grounds s J m (command.Status a) = (refusal.NoSuchAction, no_action J a) ∷ []
 command_grounds s J m (command.MemberStatus p) = (refusal.NoSuchMember, no_member J p) ∷ []
 
--- who enrols needn't be enrolled; who gives any other command has to be
+-- whether a command's clerk isn't enrolled, though it has to be: an enrolment alone needs no enrolled clerk
 abbrev pub is_stranger : History → ℕ → Command → Bool
 is_stranger J by command.Enrol = false
 is_stranger J by _ = not (is_among (clerks J) by)

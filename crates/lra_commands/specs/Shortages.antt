@@ -1,4 +1,4 @@
--- Where in the order of refusals a refused growth has its place.
+-- Where refused memory has its place in the order of refusals.
 use Rattle.std.specs.Prelude.{◌≡◌, ◌⊎◌, Bool, true, false, ◌||◌, List, [], ◌∷◌, ◌++◌, None, Err, not}
 use Rattle.lra_model.specs.History.{History}
 use Rattle.lra_commands.specs.declared.command.Command.TheVariants as command
@@ -27,7 +27,7 @@ checks_before_growth s J c = by_command c.command
         ∷ (refusal.Full resource.Actions, overfills s J c resource.Actions)
         ∷ (refusal.Full resource.Members, overfills s J c resource.Members) ∷ [])
 
--- the same, with that of a stranger
+-- the same, after the refusal of a clerk that isn't enrolled
 abbrev pub grounds_before_growth : Terms → History → Call → List Ground
 grounds_before_growth s J c = (refusal.NoSuchClerk, is_stranger J c.by c.command) ∷ checks_before_growth s J c
 
@@ -36,12 +36,12 @@ abbrev pub has_addresses : Command → Bool
 has_addresses (command.Join a uris) = true
 has_addresses _ = false
 
--- a call may find no memory: it takes some, since it writes or has addresses to read, and nothing that comes before
--- that refuses it
+-- a call may be refused for want of memory: it takes some, since it writes or has addresses to read, and nothing that
+-- comes before that refuses it
 pub record MayRunOut (s : Terms) (J : History) (c : Call) : Type 0 where
   pub takes : (is_filled (block s J c) || has_addresses c.command) ≡ true
   pub before : first_ground (grounds_before_growth s J c) ≡ None
 
--- why a call isn't done: the definitions refuse it, or a growth was refused
+-- why a call isn't done: the definitions refuse it, or memory was refused
 abbrev pub IsRefusal : Terms → History → Call → Refusal → Type 0
 IsRefusal s J c r = (answer s J c ≡ Err r) ⊎ ((r ≡ refusal.Memory) × MayRunOut s J c)

@@ -2,7 +2,8 @@
 
 use lra_model::{ActionStatus, Ending, MemberStatus, Outcome, Uris};
 
-/// A command that a clerk gives to the coordinator. `E` is the errand that a request to a member was carried by.
+/// A command that a clerk gives to the coordinator. `E` is the type of errands, each of which carries a request to a
+/// member.
 #[derive(Debug, Drop)]
 pub enum Command<'a, E> {
     /// To have a number as a clerk.
@@ -19,19 +20,19 @@ pub enum Command<'a, E> {
     Cancel { action: u64 },
     /// To cancel an action whose limit has passed.
     Tick,
-    /// To have something that a member is to be asked.
+    /// To ask a member for what is due.
     NextAsk,
-    /// To take down what came of an ask.
+    /// To record the outcome of an ask.
     Record { errand: &'a E, outcome: Outcome },
-    /// To take down what a member tells of itself.
+    /// To record what a member reports of itself.
     Report { member: u64, ending: Ending },
     /// To make every outstanding ask void.
     Restart,
     /// To set an action's limit anew, in milliseconds from now.
     Renew { action: u64, limit: u64 },
-    /// To know an action's status.
+    /// To read an action's status.
     Status { action: u64 },
-    /// To know a member's status.
+    /// To read a member's status.
     MemberStatus { member: u64 },
 }
 
@@ -47,20 +48,20 @@ pub enum Told {
     /// The member that has joined this action with these addresses before.
     AlreadyMember(u64),
     Left,
-    /// The action's status, once its close or cancel was taken.
+    /// The action's status, once its close or cancel was written.
     Now(ActionStatus),
     /// The action's status, where it was closed or cancelled before.
     Already(ActionStatus),
-    /// The action that was cancelled since its limit has passed.
+    /// The action that was cancelled because its limit had passed.
     Fired(u64),
     /// Nothing is due.
     Idle,
     /// The number of the ask.
     Asked(u64),
     Recorded,
-    /// The member's status, once its report was taken.
+    /// The member's status, once its report was written.
     MemberNow(MemberStatus),
-    /// The member's status, where it had told of that direction before.
+    /// The member's status, where the reported direction was decided before.
     MemberAlready(MemberStatus),
     Restarted,
     Renewed,

@@ -1,4 +1,4 @@
-//! Where one clerk gives its orders, whatever stands behind: a coordinator of its own, or one that others share.
+//! Counters, at each of which one clerk gives its orders: to a coordinator of its own, or to one that others share.
 
 ghost use Rattle.std.specs.Prelude.{◌≡◌, IsTrue};
 ghost use Rattle.lra_commands.specs.declared.counter.Order.TheVariants as order;
@@ -25,15 +25,15 @@ pub enum Order<'a> {
     Cancel { action: u64 },
     /// To cancel an action whose limit has passed.
     Tick,
-    /// To take down what a member tells of itself.
+    /// To record what a member reports of itself.
     Report { member: u64, ending: Ending },
     /// To make every outstanding ask void.
     Restart,
     /// To set an action's limit anew, in milliseconds from now.
     Renew { action: u64, limit: u64 },
-    /// To know an action's status.
+    /// To read an action's status.
     Status { action: u64 },
-    /// To know a member's status.
+    /// To read a member's status.
     MemberStatus { member: u64 },
 }
 
@@ -49,7 +49,7 @@ pub enum CounterFault {
 }
 
 impl<'a> Order<'a> {
-    /// The command that it is.
+    /// Returns the command that it is.
     pub fn command<E>(&self) -> Command<'a, E>
         ensures { result ≡ command_of self.now }
     {
@@ -69,11 +69,11 @@ impl<'a> Order<'a> {
     }
 }
 
-/// Where one clerk gives its orders.
+/// A counter: one clerk gives its orders there.
 ///
-/// Callers know of it what the coordinator behind it was made with, the clerk's number, and the history that it has
-/// seen. What an order does is a relation that is fixed by the type; whatever that is, it is a law that the order is
-/// given once, at a history that begins with all that was seen, and that the reply is the definitions' answer there.
+/// Callers know what the coordinator behind it was made with, the clerk's number, and the history that it has seen. The
+/// type fixes a relation that says what an order does. Whatever that is, it is a law that the order is given once, at a
+/// history that begins with all that was seen, and that the reply is the definitions' answer there.
 pub trait Counter {
     ghost use Rattle.std.specs.Prelude.{ℕ, Result};
     ghost use Rattle.lra_commands.specs.declared.command.Told.{Told};
@@ -87,7 +87,7 @@ pub trait Counter {
     // What an order at a moment does: what is known before it, the reply, and what is known after it.
     ghost gives: { Sight → ℕ → Order → Result Told CounterFault → Sight → Type 0 };
 
-    /// The instance of the coordinator. This takes no memory.
+    /// Returns the instance of the coordinator. This takes no memory.
     fn instance(&self) -> Instance
         ensures { result ≡ (sight self.now).setting.instance };
 
@@ -150,7 +150,7 @@ pub trait Counter {
         self.give(moment, &Order::Tick)
     }
 
-    /// Takes down what a member tells of itself.
+    /// Records what a member reports of itself.
     final fn report(
         &mut self,
         moment: u64,
@@ -176,14 +176,14 @@ pub trait Counter {
         self.give(moment, &Order::Renew { action, limit })
     }
 
-    /// Tells an action's status, which is the same at any moment.
+    /// Returns an action's status, which is the same at any moment.
     final fn status(&mut self, action: u64) -> Result<Told, CounterFault>
         ensures { gives (sight self.old) 0 (order.Status action) result (sight self.new) }
     {
         self.give(0, &Order::Status { action })
     }
 
-    /// Tells a member's status, which is the same at any moment.
+    /// Returns a member's status, which is the same at any moment.
     final fn member_status(&mut self, member: u64) -> Result<Told, CounterFault>
         ensures { gives (sight self.old) 0 (order.MemberStatus member) result (sight self.new) }
     {

@@ -10,61 +10,61 @@ ghost use Rattle.lra_commands.specs.Queries.{
 };
 ghost use Rattle.lra_commands.specs.Runs.{CallsKeepHistories, CallsLeaveQuiet, CallsMakeHistories};
 
-/// Whatever commands are given to a coordinator, by any clerks, at any moments and in any order, refused ones among
-/// them, its history stays legal in the version of its journal, and within its limits.
+/// States that a coordinator's history stays legal in the version of its journal, and within its limits, whatever
+/// commands are given to it, by any clerks, at any moments and in any order, refused ones among them.
 pub fn commands_keep_histories()
     ensures { CallsKeepHistories }
 {}
 
-/// Whatever commands are given to a new coordinator, its history is legal, and within its limits.
+/// States that the history of a new coordinator is legal, and within its limits, whatever commands are given to it.
 pub fn commands_make_histories()
     ensures { CallsMakeHistories }
 {}
 
-/// After a command that isn't refused and that writes, nothing is left to settle: its block has room for all that
-/// follows by itself, however much that is.
+/// States that nothing is left to settle after a command that isn't refused and that writes: its block has room for all
+/// that follows by itself, however much that is.
 pub fn calls_leave_quiet_histories()
     ensures { CallsLeaveQuiet }
 {}
 
-/// Whatever a counter tells of an order is of the one kind that such an order is told, and a number in it is one that
-/// an identifier can have.
+/// States that a counter answers each order by the kinds of answer that such an order can get, and that a number in the
+/// answer to a start or a join is one that an identifier can have.
 pub fn counters_tell()
     ensures { CountersTell }
 {}
 
-/// Each order is written once: under its clerk's number stand, after it, the entries from before and then what the
-/// definitions append for it at a history that begins with all that the counter had seen; and nothing where it wasn't
-/// done.
+/// States that each order is written once: after it, the entries under its clerk's number are those from before and
+/// then what the definitions append for it, at a history that begins with all that the counter had seen. An order that
+/// wasn't done adds nothing.
 pub fn counters_write_once()
     ensures { CountersWriteOnce }
 {}
 
-/// A command that only asks is answered what its query is told, and appends nothing.
+/// States that a command that only asks gets the result of its query as its answer, and appends nothing.
 pub fn commands_ask()
     ensures { CommandsAsk }
 {}
 
-/// A query is refused by `NoSuchAction` and `NoSuchMember` alone, whatever limits and memory there are, and whatever
-/// has become of the journal's writer.
+/// States that a query is refused by `NoSuchAction` and `NoSuchMember` alone, whatever limits and memory there are, and
+/// whatever has become of the journal's writer.
 pub fn queries_miss()
     ensures { QueriesMiss }
 {}
 
-/// Says that the end of an action waits for what queries say that the action waits for: a Closing or Cancelling action
-/// may end exactly where none of its rows holds its end.
+/// States that the end of an action waits for what queries say that the action waits for: a Closing or Cancelling
+/// action may end exactly where none of its rows holds its end.
 pub fn rows_hold_ends()
     ensures { RowsHoldEnds }
 {}
 
-/// A listing that is asked for row by row, each time from the place after the row that was told, is told whole: each of
-/// its rows once, in order.
+/// States that a listing is returned whole if it is asked for row by row, each time from the place after the row that
+/// was returned: each of its rows once, in order.
 pub fn listings_are_told_whole()
     ensures { ListingsAreToldWhole }
 {}
 
-/// A listing that is counted part by part, each time from where the count before says to go on, is counted whole: each
-/// of its rows once.
+/// States that a listing is counted whole if it is counted part by part, each time from where the count before says to
+/// go on: each of its rows once.
 pub fn listings_are_counted_whole()
     ensures { ListingsAreCountedWhole }
 {}

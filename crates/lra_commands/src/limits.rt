@@ -38,8 +38,8 @@ impl Limits {
         }
     }
 
-    /// From when on a member is asked that was asked so often in vain, the last time at that moment, in milliseconds:
-    /// at once, or after a pause.
+    /// Returns the moment from which on a member is asked, in milliseconds, given its attempts and the moment of the
+    /// last one: 0, which is at once, before the first attempt, and else after a pause.
     pub fn due_after(&self, repeats: u64, last: Option<u64>) -> u64
         ensures { result ≡ due_after self.now repeats last }
     {
@@ -51,7 +51,7 @@ impl Limits {
     }
 }
 
-/// The terms that answers depend on beside the history: the version of the journal, and the limits.
+/// The terms that answers depend on besides the history: the version of the journal, and the limits.
 #[derive(Clone, Copy, Debug, PartialEq, Eq)]
 pub struct Terms {
     pub version: Version,

@@ -19,10 +19,10 @@ pub enum Query {
     /// from this place on.
     Awaited { action: u64, place: u64 },
     /// The next row of a listing. The place of the first is 0. At most 256 rows are looked at, from this place on, so
-    /// that a page is this query asked again, each time from the place after the one that it told.
+    /// that a page is this query asked again, each time from the place after the one that it returned.
     Row { of: Listing, place: u64 },
     /// The number of rows that belong to a listing. At most 256 are looked at, from this place on, so that a count of
-    /// all is the sum of what this query is told, each time from where to go on.
+    /// all is the sum of what this query returns, each time from where to go on.
     Count { of: Listing, place: u64 },
 }
 
@@ -34,7 +34,7 @@ pub enum Listing {
     /// The actions nested directly in an action.
     Nested { action: u64 },
     /// All actions, or those alone that have a status. The place of each is its number less one, whether or not it is
-    /// told.
+    /// returned.
     Actions { status: Option<ActionStatus> },
 }
 
@@ -61,16 +61,16 @@ pub enum Row {
 #[derive(Clone, Copy, Debug, PartialEq, Eq)]
 pub struct Want {
     pub kind: AskKind,
-    /// The number of times that it was asked in vain: it answered that it goes on, or nothing.
+    /// The number of attempts: each was answered that the member goes on, or not at all.
     pub repeats: u64,
-    /// From when on it is asked, in milliseconds: 0 where it is at once.
+    /// The moment from which on it is asked, in milliseconds: 0 where it is at once.
     pub due: u64,
 }
 
-/// The row that holds the end of an action.
+/// The blocker of an action's end: a row that the end waits for.
 #[derive(Clone, Copy, Debug, PartialEq, Eq)]
 pub enum Awaited {
-    /// A member that hasn't told how it ended, and the ask of it that is outstanding, if one is.
+    /// A member that isn't done, and the ask of it that is outstanding, if one is.
     Member { member: u64, ask: Option<u64> },
     /// An action nested directly in it that hasn't ended.
     Action { action: u64 },
@@ -85,7 +85,7 @@ pub enum Known {
     MemberIs(MemberStatus),
     /// The first of the rows looked at that holds the action's end, and its place.
     Awaits { place: u64, awaited: Awaited },
-    /// None of the rows looked at is told, and there are more from this place on.
+    /// None of the rows looked at is returned, and there are more from this place on.
     Further(u64),
     /// No row from the place on holds the action's end.
     AwaitsNothing,
@@ -99,7 +99,7 @@ pub enum Known {
 }
 
 impl Known {
-    /// The same, as a command is told it. Rows, and how many there are, are told to no command: there it is `Idle`.
+    /// Returns the same as a command's answer. No command returns rows or how many there are: there it is `Idle`.
     pub const fn told(self) -> Told
         ensures { result ≡ told_as self }
     {

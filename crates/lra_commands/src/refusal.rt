@@ -37,7 +37,7 @@ pub enum Refusal {
     TooDeep,
     /// The entries that would be written don't fit into the coordinator's limits.
     Full(Resource),
-    /// The ask isn't outstanding, or the member isn't asked what it tells.
+    /// The ask isn't outstanding, or the member isn't asked for what it reports.
     NotAsked,
     /// The journal's writer has failed.
     Stopped,
@@ -67,7 +67,7 @@ impl<T: Drop> From<AllocFailed<T>> for Refusal {
 }
 
 impl Resource {
-    /// Its word in a script's output and in an HTTP body.
+    /// Returns its word in a script's output and in an HTTP body.
     pub const fn name(self) -> &'static str
         ensures { result.now ≡ resource_name self }
     {
@@ -81,7 +81,7 @@ impl Resource {
 }
 
 impl Refusal {
-    /// Its word in a script's output and in an HTTP body.
+    /// Returns its word in a script's output and in an HTTP body.
     pub const fn name(self) -> &'static str
         ensures { result.now ≡ refusal_name self }
     {
@@ -103,7 +103,7 @@ impl Refusal {
         }
     }
 
-    /// Returns the text that a person is told.
+    /// Returns the text that is shown to a person.
     const fn text(self) -> &'static str {
         match self {
             Refusal::NoSuchClerk => "the clerk isn't enrolled",

@@ -12,7 +12,7 @@ use Rattle.lra_commands.specs.Given.{errand_of, IsOfAsk}
 use Rattle.lra_commands.specs.Shortages.{IsRefusal}
 use Rattle.lra_core.specs.Shape.{Shape, IsSame, IsGrown}
 
--- a call was done: it was told what it has to be, the history grew by it, and nothing is left to settle if it wrote
+-- a call was done: it got the definitions' answer, the history grew by it, and nothing is left to settle if it wrote
 pub record IsDone (before : Shape) (c : Call) (after : Shape) (t : Told) : Type 0 where
   pub answered : answer (terms_of before.setting) before.history c ≡ Ok t
   pub grown : IsGrown before after (after_call (terms_of before.setting) before.history c)
@@ -38,18 +38,18 @@ pub record IsDoneGiving (before : Shape) (c : Call) (after : Shape) (e : Option 
 abbrev pub PerformsGiving : Shape → Call → Shape → Result (Option Asking) Refusal → Type 0
 PerformsGiving before c after result = MatchResult result (IsDoneGiving before c after) (IsRefused before c after)
 
--- a command records what came of an errand's ask
+-- a command records the outcome of an errand's ask
 abbrev pub IsRecording : Asking → Outcome → Command → Type 0
 IsRecording e o (Record errand outcome) = (errand.now ≡ e) × (outcome ≡ o)
 IsRecording e o _ = ⊥
 
--- a call records what came of an errand's ask
+-- a call records the outcome of an errand's ask
 pub record RecordsAs (c : Call) (clerk at : ℕ) (e : Asking) (o : Outcome) : Type 0 where
   pub by : c.by ≡ clerk
   pub moment : c.moment ≡ at
   pub command : IsRecording e o c.command
 
--- what came of an ask is recorded, or the errand is given back
+-- the outcome of an ask is recorded, or the errand is returned
 abbrev pub PerformsRecord : Shape → ℕ → ℕ → Asking → Outcome → Shape → Result Told (Refusal × Asking) → Type 0
 PerformsRecord before by moment e o after result =
     (c : Call) × RecordsAs c by moment e o × MatchResult result (IsDone before c after)

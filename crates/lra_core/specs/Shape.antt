@@ -8,7 +8,7 @@ use Rattle.lra_commands.specs.Terms.{AreKeepable}
 use Rattle.lra_commands.specs.Runs.{IsLawful}
 use Rattle.lra_commands.specs.Counters.{Setting, terms_of}
 
--- room that was made: for entries, for what the tables take down of them, and for moments of wants and deadlines
+-- room that was made: for entries, for what the tables keep of them, and for moments of wants and deadlines
 pub record Room : Type 0 where
   pub entries : ℕ
   pub tables : Tabled

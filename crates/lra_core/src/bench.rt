@@ -8,8 +8,8 @@ use lra_commands::{Counter, CounterFault, Order, Refusal, Session, Told};
 use lra_ids::{Base, Instance};
 use std::marker::Model;
 
-/// A coordinator, with the number of the clerk that gives its orders there. Nobody else writes, so that all of its
-/// history is seen.
+/// A coordinator, with the number of the clerk that gives it orders. Nothing else writes its history, so the counter
+/// sees all of it.
 #[derive(Drop)]
 pub struct Bench {
     coordinator: Coordinator,
@@ -25,7 +25,7 @@ impl Model for Bench {
 }
 
 impl Bench {
-    /// The counter of a clerk at a coordinator.
+    /// Makes the counter of a clerk at a coordinator.
     pub fn new(coordinator: Coordinator, by: u32) -> Bench
         ensures coordinator { result.coordinator ≡ coordinator }
         ensures number { result.number ≡ by }
@@ -36,7 +36,7 @@ impl Bench {
         }
     }
 
-    /// The coordinator, as it is.
+    /// Returns the coordinator, as it is.
     pub fn into_coordinator(self) -> Coordinator
         ensures { result ≡ self.coordinator }
     {

@@ -1,4 +1,4 @@
-//! The errands to members, and the commands of which one takes down what came of it.
+//! Errands, which carry requests to members, and the commands, one of which records an errand's outcome.
 
 ghost use Rattle.std.specs.Prelude.{◌≡◌, option_map};
 
@@ -20,7 +20,7 @@ pub struct Request {
     pub action: u64,
     /// The kind of ask.
     pub kind: AskKind,
-    /// Which way the ask goes.
+    /// The direction of the ask.
     pub direction: Direction,
     /// The address at which the member is asked.
     pub address: String,
@@ -69,56 +69,56 @@ impl Model for Errand {
 }
 
 impl Errand {
-    /// The number of the ask.
+    /// Returns the number of the ask.
     pub fn ask(&self) -> u64
         ensures { result ≡ self.now.ask }
     {
         self.request.ask
     }
 
-    /// The number of the member that is asked.
+    /// Returns the number of the member that is asked.
     pub fn member(&self) -> u64
         ensures { result ≡ self.now.member }
     {
         self.request.member
     }
 
-    /// The number of the member's action.
+    /// Returns the number of the member's action.
     pub fn action(&self) -> u64
         ensures { result ≡ self.now.action }
     {
         self.request.action
     }
 
-    /// Returns what the member is asked for.
+    /// Returns the kind of ask.
     pub fn kind(&self) -> AskKind
         ensures { result ≡ self.now.kind }
     {
         self.request.kind
     }
 
-    /// Which way the ask goes.
+    /// Returns the direction of the ask.
     pub fn direction(&self) -> Direction
         ensures { result ≡ self.now.direction }
     {
         self.request.direction
     }
 
-    /// The address at which the member is asked.
+    /// Returns the address at which the member is asked.
     pub fn address(&self) -> &str
         ensures { result.now ≡ self.now.address }
     {
         self.request.address.as_str()
     }
 
-    /// The URI of the action.
+    /// Returns the URI of the action.
     pub fn action_uri(&self) -> &str
         ensures { result.now ≡ self.now.action_uri }
     {
         self.request.action_uri.as_str()
     }
 
-    /// The URI of the action's parent, where it has one.
+    /// Returns the URI of the action's parent, where it has one.
     pub fn parent_uri(&self) -> Option<&str>
         ensures { option_map (λ uri. uri.now) result ≡ self.now.parent_uri }
     {
@@ -128,21 +128,21 @@ impl Errand {
         }
     }
 
-    /// The member's recovery URI.
+    /// Returns the member's recovery URI.
     pub fn recovery_uri(&self) -> &str
         ensures { result.now ≡ self.now.recovery_uri }
     {
         self.request.recovery_uri.as_str()
     }
 
-    /// Returns how the action ended, at an after notice.
+    /// Returns the status in which the action ended, at an after notice.
     pub fn ended(&self) -> Option<ActionStatus>
         ensures { result ≡ self.now.ended }
     {
         self.request.ended
     }
 
-    /// The errand of a request whose ask is committed.
+    /// Makes the errand of a request whose ask is committed.
     pub(crate) fn of(request: Request) -> Errand
         ensures { result ≡ request }
     {

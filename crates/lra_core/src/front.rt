@@ -1,12 +1,12 @@
-//! Bytes that contracts alone have.
+//! The prefix of a journal, for contracts alone.
 
 ghost use Rattle.std.specs.Prelude.{◌≡◌, ℕ, List, [], ◌++◌};
 ghost use Rattle.std.specs.Borrow.{ftrue};
 
 use std::marker::Model;
 
-/// Bytes that contracts alone have: they take no memory, and noting some of them does nothing at run time. A clause
-/// reads them as `bytes`.
+/// The bytes of a journal prefix, for contracts alone: they take no memory, and adding some does nothing at run time. A
+/// clause reads them as `bytes`.
 #[derive(Drop)]
 pub struct Front {
     pub ghost bytes: { List ℕ },
@@ -20,14 +20,14 @@ impl Model for Front {
 unsafe impl Send for Front {}
 
 impl Front {
-    /// No bytes.
+    /// Makes a prefix of no bytes.
     pub fn empty() -> Front
         ensures { result.bytes ≡ [] }
     {
         Front {}
     }
 
-    /// These bytes, and a piece behind them.
+    /// Returns these bytes, with a piece behind them.
     pub fn and(&self, piece: &[u8]) -> Front
         ensures { result.bytes ≡ self.now.bytes ++ piece.now }
     {

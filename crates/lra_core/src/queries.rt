@@ -14,24 +14,24 @@ use lra_judge::tell;
 
 impl<P: Past> CoordinatorOf<P> {
     /// Returns the result of a query of the history, the same for every caller at every moment. This changes nothing
-    /// and takes no memory, and neither limits nor a journal that can't be written refuse it: `NoSuchAction` and
-    /// `NoSuchMember` alone do.
+    /// and takes no memory. `NoSuchAction` and `NoSuchMember` alone refuse it, not the limits or a journal that can't
+    /// be written.
     pub fn query(&self, query: Query) -> Result<Known, Refusal>
         ensures { result ≡ tell self.now.setting.limits self.now.history query }
     {
         tell(&self.terms.limits, &self.tables, query)
     }
 
-    /// The first moment at which a want is due or a limit has passed, in milliseconds, where there is any: one that has
-    /// come lies back. A command comes no earlier than the last entry, so what isn't due yet at a moment may be so at
-    /// once. This changes nothing and takes no memory.
+    /// Returns the first moment at which a want is due or a limit has passed, in milliseconds, if there is one: it may
+    /// be in the past. A command comes no earlier than the last entry, so a want that isn't due yet at the clock's
+    /// moment may be due at once for a command. This changes nothing and takes no memory.
     pub fn next_moment(&self) -> Option<u64>
         ensures { IsFirstMoment self.now.setting.limits self.now.history result }
     {
         self.schedule.next(&self.terms.limits, &self.tables)
     }
 
-    /// Returns what a clerk's command is told that only asks.
+    /// Returns the answer to a clerk's command that only asks.
     pub(crate) fn ask(&self, by: u32, query: Query) -> Result<Told, Refusal>
         ensures { (c : Call) → c.by ≡ by → asks c.command ≡ Some query → result
             ≡ answer (terms_of self.now.setting) self.now.history c }
@@ -43,7 +43,7 @@ impl<P: Past> CoordinatorOf<P> {
     }
 }
 
-/// Returns what a query is told, as a command is answered it.
+/// Returns the result of a query as the answer to a command.
 fn answer_as(known: Result<Known, Refusal>) -> Result<Told, Refusal>
     ensures { result ≡ answer_as known }
 {

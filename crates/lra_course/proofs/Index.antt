@@ -268,7 +268,7 @@ IsIndex-kept asks rows p before now f ok there same = IsIndex-changed asks asks 
     by_test m true e = held m e
     by_test m false e = refl
 
--- a row whose ask was answered
+-- a row whose ask has a reply
 pub IsIndex-answered : (asks : ℕ) (rows : List MemberRow) (n p : ℕ) (before now : MemberRow) (f g : ℕ → Option ℕ)
     → IsIndex asks rows f → f n ≡ Some p → row_at rows p ≡ Some before → now.asked ≡ None
     → ((q : ℕ) → g q ≡ cond (eqb n q) None (f q)) → IsIndex asks (with_row p now rows) g
@@ -349,7 +349,7 @@ pub change_member-there : (f : MemberRow → MemberRow) (p : ℕ) (s : State) (r
     }
 change_member-there f p s r e = rw e (rw (change_row-there f p s.members r e) refl)
 
--- a member that answers, found by the index
+-- a member that replies, found by the index
 pub change_member-held : (g : MemberRow → MemberRow) (n p : ℕ) (s : State) (r : MemberRow) {f : ℕ → Option ℕ}
     → IsIndex s.asks s.members f → f n ≡ Some p → row_at s.members p ≡ Some r
     → change_member g (place_of n s.members) s ≡ record s {

@@ -405,7 +405,7 @@ IsToFill-cons s n r members places more h made l = record {
       ∙ l.each t;
 }
 
--- one more member, who has none to make
+-- one more member, which has none to make
 IsToFill-pass : (s : State) (n : ℕ) (r : MemberRow) (members : List MemberRow) (places : List (Option ℕ))
     → has_failed_here r ≡ false → IsToFill s n (r ∷ members) places → IsToFill s (n + 1) members places
 IsToFill-pass s n r members places h l = record {

@@ -1,4 +1,4 @@
-//! One more entry after the history.
+//! The state after one more entry.
 
 ghost use Rattle.std.specs.Prelude.{
   ◌≡◌,
@@ -47,7 +47,7 @@ fn counts_same(before: &MemberState, now: &MemberState) -> bool
     before.status == now.status && before.addresses.compensate == now.addresses.compensate
 }
 
-/// One of the action's members changes.
+/// Updates the counts of a member's action after the member's row changed.
 fn count_member(actions: &mut Vec<ActionState>, before: &MemberState, now: &MemberState)
     requires { AllCanCount actions.old.items }
     ensures { actions.new.items ≡ change_row (rows.with_member before.now now.now) before.now.action actions.old.items }
@@ -60,7 +60,7 @@ fn count_member(actions: &mut Vec<ActionState>, before: &MemberState, now: &Memb
     }
 }
 
-/// A member joins the action.
+/// Counts a new member in an action, if the action is there.
 fn count_new_member(actions: &mut Vec<ActionState>, number: u64, now: &MemberState)
     requires { AllCanCount actions.old.items }
     ensures { actions.new.items ≡ change_row (rows.with_new_member now.now) number actions.old.items }
@@ -70,7 +70,7 @@ fn count_new_member(actions: &mut Vec<ActionState>, number: u64, now: &MemberSta
     }
 }
 
-/// One of the action's nested actions changes its status.
+/// Updates the counts of an action after one of its nested actions changed its status.
 fn count_child(actions: &mut Vec<ActionState>, number: u64, before: ActionStatus, now: ActionStatus)
     requires { AllCanCount actions.old.items }
     ensures { actions.new.items ≡ change_row (rows.with_child before now) number actions.old.items }
@@ -80,7 +80,7 @@ fn count_child(actions: &mut Vec<ActionState>, number: u64, before: ActionStatus
     }
 }
 
-/// Another action is started, in its parent if it has one.
+/// Adds the row of a new action, and counts it in its parent if it has one.
 fn push_action(
     actions: &mut Vec<ActionState>,
     parent: Option<u64>,
@@ -105,7 +105,7 @@ fn push_action(
     Ok(())
 }
 
-/// Which addresses there are.
+/// Returns which of the five addresses are there.
 fn presence_of(uris: &UrisRef<'_>) -> Presence
     ensures { result ≡ presence_of uris.now }
 {
@@ -118,14 +118,14 @@ fn presence_of(uris: &UrisRef<'_>) -> Presence
     }
 }
 
-/// A member that has joined.
+/// Returns the row of a member that has just joined.
 fn new_member(action: u64, uris: &UrisRef<'_>) -> MemberState
     ensures { result ≡ rows.new_member action uris.now }
 {
     lra_states::new_member(action, presence_of(uris))
 }
 
-/// The member's new ask takes the place of its old one.
+/// Puts a member's new ask into the index, in place of its old one.
 fn index_ask(
     holders: &mut HashMap<u64, u64>,
     number: u64,
@@ -144,7 +144,7 @@ fn index_ask(
 }
 
 impl Rows {
-    /// A member's row is replaced, and its action counts anew.
+    /// Replaces a member's row, and updates the counts of its action.
     fn replace_member(&mut self, number: u64, before: &MemberState, now: MemberState)
         requires counts { AllCanCount self.old.actions }
         requires there { row_at self.old.members number ≡ Some before.now }
@@ -273,8 +273,8 @@ impl Rows {
         }
     }
 
-    /// One more entry, which breaks no rule. After `Memory` the actions' rows are as before, and nothing is known of
-    /// the rest.
+    /// Applies one more entry, which breaks no rule. After `Memory` the actions' rows are as before, and nothing is
+    /// known of the rest.
     pub(crate) fn advance(&mut self, entry: &EntryRef<'_>) -> Result<(), Memory>
         requires counts { AllCanCount self.old.actions }
         requires next { TakesNextNumber self.old (deed_seen entry.now.deed) entry.now.by }

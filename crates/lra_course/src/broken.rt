@@ -15,7 +15,7 @@ use lra_entries::{DeedRef, EntryRef, UrisRef};
 use lra_model::{Memory, Rule, Version};
 use std::alloc::Global;
 
-/// The first rule that isn't kept.
+/// Returns the first of the rules that isn't kept, if any.
 fn first_broken(verdicts: &[(Rule, bool)]) -> Option<Rule>
     ensures { result ≡ rules.first_broken verdicts.now }
 {
@@ -84,7 +84,7 @@ impl Rows {
         }
     }
 
-    /// The first rule that isn't kept where a member does something: it is there, hasn't left, and that rule.
+    /// Returns the first of three rules that isn't kept: the member is there, it hasn't left, and the rule given.
     fn broken_by_member(&self, member: u64, rule: Rule, kept: bool) -> Option<Rule>
         ensures { result ≡ rules.first_broken ((Rule.Member, rules.is_member (facts_by self.now) member)
             ∷ (Rule.Left, rules.is_here (facts_by self.now) member) ∷ (rule, kept) ∷ []) }
@@ -96,7 +96,7 @@ impl Rows {
         ])
     }
 
-    /// The first rule that isn't kept where an action is closed or cancelled: it is there, and may be so.
+    /// Returns the first of two rules that isn't kept: the action is there, and the cause lets it close or cancel.
     fn broken_by_decision(&self, action: u64, allowed: bool) -> Option<Rule>
         ensures { result ≡ rules.first_broken ((Rule.Action, rules.is_action (facts_by self.now) action)
             ∷ (Rule.Cause, allowed) ∷ []) }
@@ -168,7 +168,7 @@ impl Rows {
         })
     }
 
-    /// The first rule that an entry breaks after the history.
+    /// Returns the first rule that an entry breaks after the history, if it breaks any.
     pub(crate) fn broken(
         &self,
         alloc: Global,

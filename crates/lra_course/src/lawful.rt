@@ -41,7 +41,7 @@ pub(crate) fn has_deed(version: Version, deed: &DeedRef<'_>) -> bool
     }
 }
 
-/// Returns whether a limit's end is a moment.
+/// Returns whether a limit that begins at a moment ends at one that a journal can have.
 pub(crate) fn is_moment(moment: u64, limit: u64) -> bool
     ensures { result ≡ tests.is_moment (moment + limit) }
 {
@@ -326,7 +326,7 @@ impl Rows {
         }
     }
 
-    /// Returns whether the member may be asked that now.
+    /// Returns whether an ask of that kind may be made of the member now.
     pub(crate) fn may_ask(&self, number: u64, kind: AskKind) -> bool
         ensures { result ≡ tests.at_member (tests.may_ask kind (facts_by self.now)) (facts_by self.now) number }
     {
@@ -340,7 +340,7 @@ impl Rows {
         }
     }
 
-    /// Returns whether the ask is outstanding and may be answered so.
+    /// Returns whether the ask is outstanding and may have that outcome.
     pub(crate) fn may_reply(&self, ask: u64, outcome: Outcome) -> bool
         ensures { result ≡ tests.may_reply (facts_by self.now) ask outcome }
     {
@@ -353,7 +353,7 @@ impl Rows {
         }
     }
 
-    /// Returns whether the member may report that it ended so.
+    /// Returns whether the member may report that outcome.
     pub(crate) fn may_report(&self, number: u64, outcome: Outcome) -> bool
         ensures { result ≡ tests.at_member (tests.may_report outcome) (facts_by self.now) number }
     {

@@ -1,5 +1,5 @@
-//! The course of a history: whether its entries keep the rules, one after another, and what they come to. It knows
-//! nothing of the journal's text.
+//! The course of a history: whether its entries keep the rules, one after another, and the summary of them. This crate
+//! doesn't read the journal's text.
 #![tactic(auto)]
 
 mod advance;

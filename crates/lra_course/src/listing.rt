@@ -60,7 +60,7 @@ impl Listing {
         self.rows.count_members()
     }
 
-    /// The action of a number, if it is there.
+    /// Returns the action of a number, if it is there.
     pub fn action(&self, number: u64) -> Option<ListedAction>
         ensures { result ≡ row_at self.now.actions number }
     {
@@ -72,7 +72,7 @@ impl Listing {
         })
     }
 
-    /// The member of a number, if it is there.
+    /// Returns the member of a number, if it is there.
     pub fn member(&self, number: u64) -> Option<ListedMember>
         ensures { result ≡ row_at self.now.members number }
     {

@@ -1,4 +1,4 @@
-//! Addresses in the plain form, that most have: they are known by one look at each byte, without the URL's parser.
+//! Addresses in the plain form, which most have: one pass over the bytes recognizes them, without the URL's parser.
 
 ghost use Rattle.std.specs.Prelude.{◌≡◌, ◌≢◌, ◌++◌, ℕ, List, Some, true, codes, MatchOption};
 ghost use Rattle.std.specs.Fmt.{decimal};
@@ -36,7 +36,7 @@ fn is_path_byte(b: u8) -> bool
     is_name_byte(b) || (65 <= b && b <= 90) || b == 46 || b == 95 || b == 126
 }
 
-/// Returns whether these are names, of which each begins with a letter, with single dots between them.
+/// Returns whether bytes are names with single dots between them, where each name begins with a letter.
 #[tactic(auto, unfolding(crate::specs::inner::Plain::is_host))]
 fn is_host(bytes: &[u8]) -> bool
     ensures { result ≡ is_host true bytes.now }
@@ -56,7 +56,7 @@ fn is_host(bytes: &[u8]) -> bool
     !fresh
 }
 
-/// Returns whether these are segments of a path behind its first slash, of which none begins with a dot.
+/// Returns whether bytes are the segments of a path behind its first slash, where none begins with a dot.
 #[tactic(auto, unfolding(crate::specs::inner::Plain::is_path))]
 fn is_path(bytes: &[u8]) -> bool
     ensures { result ≡ is_path true bytes.now }
@@ -78,7 +78,7 @@ fn is_path(bytes: &[u8]) -> bool
     true
 }
 
-/// Returns what stands behind the scheme.
+/// Returns what follows `http://`, if a text begins with that.
 fn after_scheme(text: &[u8]) -> Option<&[u8]>
     ensures { MatchOption result ((rest : List ℕ) → text.now ≢ codes "http://" ++ rest)
         (λ rest. text.now ≡ codes "http://" ++ rest.now) }
@@ -86,7 +86,7 @@ fn after_scheme(text: &[u8]) -> Option<&[u8]>
     text.strip_prefix(b"http://")
 }
 
-/// Returns whether digits are those of a port other than 80, which is the scheme's own.
+/// Returns whether digits are those of a port other than 80, the scheme's default.
 fn is_port(digits: &[u8]) -> bool
     ensures { result ≡ true → (n : ℕ) × (digits.now ≡ decimal n) × IsPort (Some n) }
 {
@@ -96,7 +96,7 @@ fn is_port(digits: &[u8]) -> bool
     }
 }
 
-/// Returns whether these are a host, and a colon and a port where there is one.
+/// Returns whether bytes are a host, or a host, a colon and a port.
 fn is_authority(bytes: &[u8]) -> bool
     ensures { result ≡ true → IsAuthority bytes.now }
 {

@@ -1,4 +1,4 @@
-//! The forward state of a history: a row for each action and for each member, and who holds which ask.
+//! The forward state of a history: a row for each action and for each member, and the member of each ask.
 
 ghost use Rattle.std.specs.Prelude.{◌≡◌, ◌-◌, ◌<◌, SomeIff, Some, None, []};
 ghost use Rattle.std.specs.Option.{option_and_then};
@@ -49,7 +49,7 @@ impl Model for Rows {
     ghost invariant = { λ r. IsIndex r.asks r.members.items (get nat_eq r.holders) };
 }
 
-/// The action's row, if it is there.
+/// Returns an action's row, if it is there.
 pub(crate) fn action_at(rows: &[ActionState], number: u64) -> Option<ActionState>
     ensures { result ≡ row_at rows.now number }
 {
@@ -57,7 +57,7 @@ pub(crate) fn action_at(rows: &[ActionState], number: u64) -> Option<ActionState
     rows.get(place as usize).copied()
 }
 
-/// The member's row, if it is there.
+/// Returns a member's row, if it is there.
 pub(crate) fn member_at(rows: &[MemberState], number: u64) -> Option<MemberState>
     ensures { result ≡ row_at rows.now number }
 {
@@ -90,7 +90,7 @@ pub(crate) fn set_member(rows: &mut Vec<MemberState>, number: u64, row: MemberSt
 impl Rows {
     ghost use Rattle.lra_course.specs.Start.{no_entries};
 
-    /// The state before the first entry.
+    /// Returns the state before the first entry.
     pub(crate) fn new(alloc: Global) -> Rows
         ensures { result ≡ no_entries }
     {
@@ -117,7 +117,7 @@ impl Rows {
         member_at(&self.members, number)
     }
 
-    /// The member that an outstanding ask was made of.
+    /// Returns the row of the member that was asked, if the ask is outstanding.
     pub(crate) fn member_asked(&self, ask: u64) -> Option<MemberState>
         ensures { result ≡ member_asked self.now ask }
     {
@@ -130,7 +130,7 @@ impl Rows {
         }
     }
 
-    /// The number of the outermost action above a new one.
+    /// Returns the number of the outermost action above a new one: its own number where it has no parent.
     pub(crate) fn new_top(&self, action: u64, parent: Option<u64>) -> u64
         ensures { result ≡ new_top self.now action parent }
     {

@@ -53,7 +53,7 @@ fn count_cancelled(actions: &[ActionState]) -> u64
         .count() as u64
 }
 
-/// The parent of an action, if it is there and has one.
+/// Returns the parent of an action, if the action is there and has one.
 fn parent_of(actions: &[ActionState], number: u64) -> Option<u64>
     ensures { result ≡ option_map_or (λ r. r.parent) (row_at actions.now number) None }
 {
@@ -70,7 +70,7 @@ fn has_failed_here(row: &MemberState) -> bool
     stays(row) && row.status.has_failed()
 }
 
-/// The entry of a number, counted from 1.
+/// Returns the member at an action's number, counted from 1, if there is one.
 fn at(least: &[Option<u64>], number: u64) -> Option<u64>
     ensures { result ≡ unwrap_or (row_at least.now number) None }
 {
@@ -90,7 +90,7 @@ fn mark(least: &mut Vec<Option<u64>>, number: u64, member: u64)
     }
 }
 
-/// Returns whether the parent of an action of that number has a lesser number, or there is none.
+/// Returns whether the parent of an action has a lesser number than the action, or there is no parent.
 fn parent_is_less(row: &ActionState, number: u64) -> bool
     ensures { result ≡ option_map_or (λ b. nat_lt b number) row.now.parent true }
 {
@@ -115,8 +115,8 @@ fn parents_are_less(actions: &[ActionState]) -> bool
     true
 }
 
-/// Puts a member at its action and at each above it, where none is there yet. Where each parent's number is less, all
-/// above an action with a member have one too, so the walk stops there: all walks together visit each action once.
+/// Puts a member at its action and at each action above it, where none is there yet. If each parent's number is less,
+/// all actions above one with a member have one too, so the walk stops there. So all walks mark an action once at most.
 fn mark_up(
     actions: &[ActionState],
     are_less: bool,
@@ -147,7 +147,7 @@ fn mark_up(
     mark(least, above, member);
 }
 
-/// For each action the least member that stays in it or below it and has failed.
+/// Returns for each action the least member that stays in it or below it and has failed.
 fn least_failed(alloc: Global, rows: &Rows) -> Result<Vec<Option<u64>>, Memory>
     ensures { IfOk result (λ least. (t : ℕ) → row_at least.items t ≡ option_map (λ r. least_failed_by rows.now t)
         (row_at rows.now.actions t)) }
@@ -188,7 +188,7 @@ fn failed_ends(
     Ok(FailedEnds::from_vec(ends))
 }
 
-/// The failed ends, by the rows.
+/// Returns the actions that ended in failure, by the rows.
 fn failed_by(alloc: Global, rows: &Rows) -> Result<FailedEnds, Memory>
     ensures { IfOk result (λ ends. ends ≡ failed_ends_from (least_failed_by rows.now) 1 rows.now.actions) }
 {
@@ -196,7 +196,7 @@ fn failed_by(alloc: Global, rows: &Rows) -> Result<FailedEnds, Memory>
     failed_ends(alloc, &rows.actions, &least)
 }
 
-/// The summary of a history of so many entries, by its rows.
+/// Returns the summary of a history of so many entries, by its rows.
 pub(crate) fn summary(alloc: Global, rows: &Rows, entries: u64) -> Result<Summary, Memory>
     ensures { IfOk result (λ s. s ≡ summary_by entries rows.now) }
 {

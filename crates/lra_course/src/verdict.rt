@@ -1,4 +1,4 @@
-//! The answer of an audit.
+//! The result of an audit.
 
 ghost use Rattle.std.specs.Prelude.{◌≡◌};
 
@@ -30,21 +30,21 @@ impl Model for FailedEnds {
 }
 
 impl FailedEnds {
-    /// The ends of a list, which are to stand in the order of their numbers.
+    /// Returns the ends of a list, which has to be in the order of their numbers.
     pub fn from_vec(ends: Vec<FailedEnd>) -> FailedEnds
         ensures { result ≡ ends.items }
     {
         FailedEnds { ends }
     }
 
-    /// The ends, one after another.
+    /// Returns the ends as a slice.
     pub fn as_slice(&self) -> &[FailedEnd]
         ensures { result.now ≡ self.now }
     {
         self.ends.as_slice()
     }
 
-    /// The ends as a list.
+    /// Returns the ends as a list.
     pub fn into_vec(self) -> Vec<FailedEnd>
         ensures { result.items ≡ self }
     {
@@ -66,7 +66,7 @@ pub struct Summary {
     pub failed: FailedEnds,
 }
 
-/// The answer of an audit.
+/// The result of an audit.
 #[derive(Debug, Drop)]
 pub enum Verdict {
     /// The history is legal.

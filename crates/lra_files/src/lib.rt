@@ -1,4 +1,4 @@
-//! Small files beside a journal: read whole, and who may read them.
+//! Small files beside a journal: a reader of whole files, and a check of their modes.
 #![tactic(auto)]
 
 mod small;

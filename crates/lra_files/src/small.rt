@@ -8,10 +8,10 @@ use std::fs::File;
 use std::io::{ErrorKind, Read};
 use std::os::unix::fs::PermissionsExt;
 
-/// Those bits of a file's mode that let others than its owner read or write it.
+/// The bits of a file's mode that allow others than its owner to read, write or execute it.
 const OTHERS: u32 = 0o077;
 
-/// Why a small file isn't read.
+/// The reason why a small file isn't read.
 #[derive(Clone, Copy, Debug, PartialEq, Eq)]
 pub enum SmallFault {
     /// It can't be read.
@@ -22,8 +22,7 @@ pub enum SmallFault {
     Memory,
 }
 
-/// Returns whether the mode of a file allows anything to others than its owner. A file whose mode can't be had counts
-/// as shared.
+/// Returns whether the mode of a file allows anything to others than its owner, or can't be read.
 pub fn is_shared(file: &File) -> bool {
     match file.metadata() {
         Ok(metadata) => metadata.permissions().mode() & OTHERS != 0,
@@ -31,8 +30,8 @@ pub fn is_shared(file: &File) -> bool {
     }
 }
 
-/// All that a reader has to its end, where that is no more than so many bytes. Of what has no end one byte more is
-/// read.
+/// Reads all the bytes of a reader to its end, if there are no more than `longest`. Reads at most one byte more than
+/// that.
 pub fn read_whole<F: Read + Drop>(
     alloc: Global,
     file: F,

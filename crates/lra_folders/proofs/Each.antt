@@ -96,7 +96,7 @@ opened_more {F} named remaining folder words jobs more i word name job lt is cal
     (sym long)) opened)
     k d (let more_by_one = length_push jobs job in omega (arith, long, less, more_by_one)) w)
 
--- what is told of a name and its file is told of the journal
+-- what is returned for a name and its file is returned for the journal
 pub told_on : {F : Type 0} → (deed : Deed) (named : List ℕ → Option (List ℕ)) (remaining : F → Option (List ℕ))
     (folder name bytes : List ℕ) (job : String Global × Option F) (told : Result (Option Line) RunFault)
     → named (path_of folder name) ≡ Some bytes → IsOpened named remaining folder name job
@@ -107,7 +107,7 @@ told_on deed named remaining folder name bytes (own, Some file) told known (is, 
     subst (λ (xs : List ℕ). IsTold deed bytes (xs ++ behind deed) told) is
     (tells bytes (subst (λ (o : Option (List ℕ)). IfSome o (λ (all : List ℕ). remaining file ≡ Some all)) known opened))
 
--- what is told of all names of a folder
+-- what is returned for all names of a folder
 pub all_told : {F : Type 0} → (deed : Deed) (named : List ℕ → Option (List ℕ)) (remaining : F → Option (List ℕ))
     (bytes : List ℕ → List ℕ) (folder : List ℕ) (words : List (String Global)) (jobs : List (String Global × Option F))
     (n : ℕ) (all : Result (Vec (Result (Option Line) RunFault) Global) AllocError)
@@ -126,7 +126,7 @@ all_told {F} deed named remaining bytes folder words jobs n (Ok all) known opene
     (known (path_of folder (string_bytes (get_or words i w)))) (opened i w (w, None) (omega (arith, lt, long)))
     (told i (w, None) d (omega (arith, lt, long)))
 
--- what is told of the first of some names is told of the front that they are
+-- what is returned for the first of some names is returned for the prefix that they are
 pub front_told : (deed : Deed) (bytes : List ℕ → List ℕ) (folder : List ℕ) (words next done : List (String Global))
     (w n m : ℕ) (all : List (Result (Option Line) RunFault))
     → next ≡ take w words → done ≡ take m words → m ≡ n → n ≤ w → AllTold deed bytes folder next n all
@@ -140,7 +140,7 @@ front_told deed bytes folder words next done w n m all first front same le told 
     (omega (arith, lt, long, short, same, le)) ∙ sym (get_or-take m words i v (omega (arith, lt, long, short)))
     ∙ sym (ap (λ (ws : List (String Global)). get_or ws i v) front)) (told i v d (omega (arith, lt, long, short, same)))
 
--- those of the front of some words, and then those of the rest
+-- those of a prefix of some words, and then those of the rest
 pub each_before : (deed : Deed) (bytes : List ℕ → List ℕ) (folder : List ℕ) (n : ℕ)
     (words front back : List (String Global)) (p q r : Progress)
     → front ≡ take n words → back ≡ drop n words → TellsEach deed bytes folder (texts front) p q
@@ -179,7 +179,7 @@ each_audited bytes folder (name ∷ names) p q (line, r, next, rest) =
     let audited = next_audited (bytes (path_of folder name)) (path_of folder name) name line p r next in
     (audited.0, r, audited.1, each_audited bytes folder names r q rest)
 
--- what is told of all in an audit
+-- what is written of all in an audit
 pub all_audited : (bytes : List ℕ → List ℕ) (folder : List ℕ) (names : List (List ℕ)) (before after : Option (List ℕ))
     (told : List ℕ) (status : ℕ)
     → TellsAll Audit bytes folder names before after told status → AuditsAll bytes folder names before after told status

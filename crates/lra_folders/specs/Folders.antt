@@ -1,4 +1,4 @@
--- What an audit of a folder's journals writes, tells and answers.
+-- What an audit of a folder's journals writes and returns.
 use Rattle.std.specs.Prelude.{◌≡◌, ℕ, ◌+◌, nat_lt, nat_eq, List, [], ◌∷◌, ◌++◌, codes, String, string_bytes, Option}
 use Rattle.std.specs.Prelude.{Some, None, IfSome, if◌then◌else◌}
 use Rattle.std.specs.Fmt.{decimal}
@@ -24,7 +24,7 @@ abbrev pub counted : Verdict → Tally → Tally
 counted (Sound s) t = record t { sound = t.sound + 1 }
 counted (Unsound line rule) t = record t { unsound = t.unsound + 1 }
 
--- an audit of a folder so far: what was written, what is to be told on standard error, and the counts
+-- an audit of a folder so far: what was written, what is for standard error, and the counts
 pub record Progress : Type 0 where
   pub written : Option (List ℕ)
   pub told : List ℕ
@@ -35,7 +35,7 @@ abbrev pub at_first : Option (List ℕ) → Progress
 at_first written = record { written = written; told = []; tally = record { sound = 0; unsound = 0; unread = 0 } }
 
 -- one journal more, of these bytes: it has this verdict, and its name and its report were written; or it can't be read,
--- which is told
+-- and has a line for standard error
 abbrev pub AuditsNext : List ℕ → List ℕ → List ℕ → Option Verdict → Progress → Progress → Type 0
 AuditsNext bytes path name (Some verdict) p q =
     IsVerdict bytes verdict × Appends p.written q.written (joined (name ∷ codes " " ∷ report_of verdict ∷ []))
@@ -72,7 +72,7 @@ pub record AuditsAll (bytes : List ℕ → List ℕ) (folder : List ℕ) (names 
   pub tells : told ≡ last.told
   pub answered : status ≡ status_of last.tally
 
--- what stands between a journal's name and what is told of it
+-- what stands between a journal's name and its report or listing
 abbrev pub behind : Deed → List ℕ
 behind Audit = codes " "
 behind Show = line_feed
@@ -86,8 +86,8 @@ Tells Show bytes status before after = ReportsListing bytes status before after
 abbrev pub counted_as : ℕ → Tally → Tally
 counted_as status t = if nat_eq status 0 then record t { sound = t.sound + 1 } else record t { unsound = t.unsound + 1 }
 
--- one journal more, of these bytes: what is told of it, of this status and with this text, was written; or it can't be
--- read, which is told
+-- one journal more, of these bytes: its line, of this status and with this text, was written; or it can't be read, and
+-- has a line for standard error
 abbrev pub TellsNext : Deed → List ℕ → List ℕ → List ℕ → Option (ℕ × List ℕ) → Progress → Progress → Type 0
 TellsNext deed bytes path name (Some (status, text)) p q =
     Tells deed bytes status (Some (name ++ behind deed)) (Some text) × Appends p.written q.written text
@@ -96,15 +96,14 @@ TellsNext deed bytes path name None p q =
     (q.written ≡ p.written) × (q.told ≡ p.told ++ error_line Read path)
     × (q.tally ≡ record p.tally { unread = p.tally.unread + 1 })
 
--- what is told of the journals of these names was written, one after another
+-- the journals of these names were reported, one after another
 abbrev pub TellsEach : Deed → (List ℕ → List ℕ) → List ℕ → List (List ℕ) → Progress → Progress → Type 0
 TellsEach deed bytes folder [] p q = q ≡ p
 TellsEach deed bytes folder (name ∷ names) p q =
     (line : Option (ℕ × List ℕ)) × (r : Progress) × TellsNext deed (bytes (path_of folder name)) (path_of folder name)
     name line p r × TellsEach deed bytes folder names r q
 
--- what is told of the journals of these names, whose bytes are those, was written one after another; then the counts
--- were
+-- the journals of these names, whose bytes are those, were reported one after another; then the counts were written
 pub record TellsAll (deed : Deed) (bytes : List ℕ → List ℕ) (folder : List ℕ) (names : List (List ℕ))
     (before after : Option (List ℕ)) (told : List ℕ) (status : ℕ) : Type 0 where
   pub last : Progress

@@ -29,7 +29,7 @@ pub struct Line {
 /// The line that is printed of a journal; or nothing where it can't be read.
 pub(crate) type Told = Result<Option<Line>, RunFault>;
 
-/// Returns what stands between a journal's name and what is told of it.
+/// Returns what stands between a journal's name and its report or listing.
 fn behind(deed: Deed) -> &'static [u8]
     ensures { result.now ≡ behind deed }
 {
@@ -39,7 +39,7 @@ fn behind(deed: Deed) -> &'static [u8]
     }
 }
 
-/// A journal's name, and what stands behind it.
+/// Returns a journal's name, and what stands behind it.
 fn front_of(alloc: Global, deed: Deed, name: &str) -> Result<Vec<u8>, Memory>
     ensures { IfOk result (λ front. front.items ≡ name.now ++ behind deed) }
 {
@@ -49,7 +49,7 @@ fn front_of(alloc: Global, deed: Deed, name: &str) -> Result<Vec<u8>, Memory>
     Ok(front)
 }
 
-/// Adds to a text what is told of the journal that the reader gives. The answer is its status.
+/// Adds the report or the listing of the journal that the reader gives to a text. Returns the journal's status.
 fn add<F: Read + Drop>(
     alloc: Global,
     deed: Deed,
@@ -65,7 +65,7 @@ fn add<F: Read + Drop>(
     }
 }
 
-/// Returns what is told of a journal of this name; nothing where there is no file, or it can't be read.
+/// Returns what is printed of a journal of this name; nothing where there is no file, or it can't be read.
 pub(crate) fn told_of<F: Read + Drop>(
     alloc: Global,
     deed: Deed,
@@ -80,7 +80,7 @@ pub(crate) fn told_of<F: Read + Drop>(
     let mut text = front_of(alloc, deed, name.as_str())?;
     match add(alloc, deed, file, &mut text) {
         Ok(status) => Ok(Some(Line { status, text })),
-        // It is written into memory.
+        // The text is written into memory, so a failed write is a lack of memory.
         Err(RunFault::Memory | RunFault::Write) => Err(RunFault::Memory),
         Err(_) => Ok(None),
     }

@@ -1,4 +1,4 @@
-//! Which journals a folder has.
+//! The journals that a folder has.
 
 use lra_audits::RunFault;
 use std::alloc::{AllocError, Global};
@@ -6,7 +6,7 @@ use std::fs;
 use std::io::ErrorKind;
 use std::rt::Files;
 
-/// The folder in a folder whose journals count too: those that were put away.
+/// The folder in a folder whose journals count too: those that were archived.
 pub const ENDED: &str = "ended";
 
 /// The file in it that has the greatest instance that was ever given.
@@ -19,7 +19,7 @@ pub const BASE: &str = "base";
 /// was restored.
 pub const RESTORED: &str = "restored";
 
-/// The file in it that has the members which operators have given up and which aren't told any more that their action
+/// The file in it that has the members which operators have given up. Such a member gets no more notice that its action
 /// has ended.
 pub const GIVEN_UP: &str = "given-up";
 
@@ -40,7 +40,7 @@ pub fn is_folder<R: Files>(rt: &R, name: &str) -> bool {
     }
 }
 
-/// The line that tells of what is no journal in a folder. Control characters of its name stand as `?`.
+/// Returns the line that says that a name in a folder is no journal's. Control characters of the name stand as `?`.
 pub fn stray_line(alloc: Global, folder: &str, name: &str) -> Result<String, AllocError> {
     let mut line = format!(in alloc; "lra: {folder}/")?;
     for character in name.chars() {
@@ -54,8 +54,8 @@ pub fn stray_line(alloc: Global, folder: &str, name: &str) -> Result<String, All
     Ok(line)
 }
 
-/// Returns whether a name is that of what a service keeps in its folder beside the journals: those that were archived,
-/// what it notes, and what is being made ready.
+/// Returns whether a name is that of what a service keeps in its folder beside the journals: archived journals, its
+/// notes, and what is being made ready.
 pub fn is_kept(name: &str) -> bool {
     is_noted(name) || name == ENDED || name.ends_with(".next")
 }
@@ -65,7 +65,7 @@ fn is_noted(name: &str) -> bool {
     name == NEWEST || name == BASE || name == RESTORED || name == GIVEN_UP
 }
 
-/// Returns whether a name in a folder is that of a file, or of what can't be looked at: a pipe would be read for ever.
+/// Returns whether a name in a folder is a file's, or can't be looked up. A pipe's is neither: reads may never end.
 fn may_be_file<R: AllocGlobal + Files>(
     rt: &R,
     folder: &str,
@@ -78,7 +78,7 @@ fn may_be_file<R: AllocGlobal + Files>(
     }
 }
 
-/// Puts a name of a folder where it belongs.
+/// Adds a name of a folder to the journals or to the others, unless a service keeps it beside its journals.
 fn put_name<R: AllocGlobal + Files>(
     rt: &R,
     folder: &str,
@@ -96,7 +96,7 @@ fn put_name<R: AllocGlobal + Files>(
     }
 }
 
-/// The names of what a folder has, in the order of their bytes. One that isn't UTF-8 is `?`.
+/// Returns the names of what a folder has, in the order of their bytes. One that isn't UTF-8 is `?`.
 pub fn names_in<R: AllocGlobal + Files + Clone + Drop>(
     rt: &R,
     folder: &str,
@@ -122,7 +122,7 @@ pub fn names_in<R: AllocGlobal + Files + Clone + Drop>(
     Ok(names)
 }
 
-/// Adds the names of what a folder has, with what comes before each.
+/// Adds the names of what a folder has, each behind a prefix.
 fn add_names<R: AllocGlobal + Files + Clone + Drop>(
     rt: &R,
     folder: &str,

@@ -62,7 +62,7 @@ pub struct FolderAudit {
     pub told: String,
 }
 
-/// The path of a name in a folder.
+/// Returns the path of a name in a folder.
 pub(crate) fn path_in(alloc: Global, folder: &str, name: &str) -> Result<String, Memory>
     ensures { IfOk result (λ text. string_bytes text ≡ path_of folder.now name.now) }
 {
@@ -83,7 +83,7 @@ fn count(tally: &mut Tally, status: u8)
     }
 }
 
-/// Writes what was told of one more journal, or adds to what is told on standard error where it can't be read.
+/// Writes the text of one more journal, or adds a line for standard error where it can't be read, and counts it.
 fn write_next<W: Write>(
     alloc: Global,
     path: &str,
@@ -114,7 +114,7 @@ fn write_next<W: Write>(
     Ok(())
 }
 
-/// Writes what was told of the journals of these names, one after another.
+/// Writes the texts of the journals of these names, one after another, and counts the journals.
 fn write_each<W: Write>(
     alloc: Global,
     folder: &str,
@@ -140,7 +140,7 @@ fn write_each<W: Write>(
     Ok(())
 }
 
-/// Returns how many journals were audited, as the first half of the last line.
+/// Returns the first half of the last line: how many journals are sound, and how many unsound.
 fn verdicts_text(alloc: Global, tally: Tally) -> Result<String, Memory>
     ensures { IfOk result (λ text. string_bytes text ≡ verdicts_counted tally) }
 {
@@ -149,7 +149,7 @@ fn verdicts_text(alloc: Global, tally: Tally) -> Result<String, Memory>
     format!(in alloc; "journals sound {sound} unsound {unsound}")
 }
 
-/// The last line.
+/// Returns the last line, which has the counts of journals.
 fn line_of_totals(alloc: Global, tally: Tally) -> Result<String, Memory>
     ensures { IfOk result (λ text. string_bytes text ≡ totals_line tally) }
 {
@@ -160,7 +160,7 @@ fn line_of_totals(alloc: Global, tally: Tally) -> Result<String, Memory>
     Ok(text)
 }
 
-/// The program's status by the counts.
+/// Returns the program's status by the counts: 2 where a journal can't be read, else 1 where one isn't sound, else 0.
 fn status_by(tally: Tally) -> u8
     ensures { result ≡ status_of tally }
 {
@@ -173,7 +173,7 @@ fn status_by(tally: Tally) -> u8
     0
 }
 
-/// Does this with the journals of these names in a folder, and counts them: as many side by side as threads run and
+/// Audits or lists the journals of these names in a folder, and counts them: as many side by side as threads run and
 /// files can be open, and then as many again.
 fn tell_each<R: Threads + Sync, F: Read + Send + Drop, S: Sources<File = F>, W: Write>(
     rt: &R,
@@ -212,8 +212,8 @@ fn tell_each<R: Threads + Sync, F: Read + Send + Drop, S: Sources<File = F>, W: 
     Ok(tally)
 }
 
-/// Does this with the journals of these names in a folder: writes what is told of each, and at the end how many there
-/// are. One that can't be read, or has more than 2^30 bytes, is told, and the others go on.
+/// Audits or lists the journals of these names in a folder: writes the text of each, and at the end how many there are.
+/// The text that is returned has a line for each that can't be read, or has more than 2^30 bytes.
 fn tell_journals<R: Threads + Sync, F: Read + Send + Drop, S: Sources<File = F>, W: Write>(
     rt: &R,
     alloc: Global,
@@ -237,9 +237,9 @@ fn tell_journals<R: Threads + Sync, F: Read + Send + Drop, S: Sources<File = F>,
     })
 }
 
-/// Audits the journals of these names in a folder, as many side by side as threads run: writes each with its report
-/// behind its name, in the order of the names, and at the end how many there are. One that can't be read, or has more
-/// than 2^30 bytes, is told, and the others go on.
+/// Audits the journals of these names in a folder, as many side by side as threads run: writes each one's name and its
+/// report, in the order of the names, and at the end how many there are. The text that is returned has a line for each
+/// that can't be read, or has more than 2^30 bytes.
 pub fn audit_journals<R: Threads + Sync, F: Read + Send + Drop, S: Sources<File = F>, W: Write>(
     rt: &R,
     alloc: Global,
@@ -257,8 +257,8 @@ pub fn audit_journals<R: Threads + Sync, F: Read + Send + Drop, S: Sources<File 
 }
 
 /// Lists the journals of these names in a folder, side by side too: writes each one's listing below its name, or the
-/// line of its first fault, and at the end how many there are. One that can't be read, or has more than 2^30 bytes, is
-/// told, and the others go on.
+/// line of its first fault, and at the end how many there are. The text that is returned has a line for each that can't
+/// be read, or has more than 2^30 bytes.
 pub fn list_journals<R: Threads + Sync, F: Read + Send + Drop, S: Sources<File = F>, W: Write>(
     rt: &R,
     alloc: Global,

@@ -13,19 +13,19 @@ use std::marker::{Send, Sync};
 use std::rt::Files;
 use std::thread::Threads;
 
-/// Tells on standard error what was left alone in a folder.
+/// Prints a line on standard error for each of the names in a folder that is no journal's.
 pub fn tell_others<R: AllocGlobal + Eprint>(rt: &R, folder: &str, others: &[String]) {
     for name in others {
         let _ = tell(rt, stray_line(rt.alloc(), folder, name.as_str()));
     }
 }
 
-/// Tells that a folder has no journal. Returns the program's status.
+/// Prints on standard error that a folder has no journal. Returns the program's status.
 pub fn tell_none<R: AllocGlobal + Eprint>(rt: &R, folder: &str) -> u8 {
     tell(rt, format!(in rt.alloc(); "lra: no journal in {folder}\n"))
 }
 
-/// Does this with the journals of these names.
+/// Audits or lists the journals of these names.
 fn run_on<R: Threads + Sync, F: Read + Send + Drop, S: Sources<File = F>, W: Write>(
     rt: &R,
     alloc: Global,
@@ -41,7 +41,7 @@ fn run_on<R: Threads + Sync, F: Read + Send + Drop, S: Sources<File = F>, W: Wri
     }
 }
 
-/// Does this with the journals that a folder has, and returns the program's status. A folder that has none is a fault.
+/// Audits or lists the journals that a folder has, and returns the program's status. A folder without any is a fault.
 pub fn run_folder<
     R: AllocGlobal + Files + Threads + Eprint + Sync + Clone + Drop,
     F: Read + Send + Drop,
@@ -67,7 +67,7 @@ pub fn run_folder<
     Ok(done.status)
 }
 
-/// Does this with a folder of the system's, and gives the program's status.
+/// Audits or lists the journals of a folder of the system, and returns the program's status.
 fn answer_folder<
     R: AllocGlobal + Files<File = File> + Threads + Input + Print + Eprint + Sync + Clone + Drop,
 >(rt: &R, deed: Deed, folder: &str) -> u8 {
@@ -75,7 +75,7 @@ fn answer_folder<
     settle(rt, outcome, folder)
 }
 
-/// Answers a question on standard output, and gives the program's status. An audit or a listing may be of a folder.
+/// Answers a question on standard output, and returns the program's status. An audit or a listing may be of a folder.
 pub fn answer_question<
     R: AllocGlobal + Files<File = File> + Threads + Input + Print + Eprint + Sync + Clone + Drop,
 >(rt: &R, question: Question<'_>) -> u8 {

@@ -1,4 +1,4 @@
-//! Journals that are gone through side by side.
+//! Journals that are audited or listed side by side.
 
 ghost use Rattle.std.specs.Prelude.{
   ◌≡◌,
@@ -32,7 +32,7 @@ use std::thread::{Threads, available_parallelism};
 /// The number of threads where the system doesn't say how many it runs side by side.
 const THREADS: usize = 4;
 
-/// Returns the number of journals that are gone through side by side.
+/// Returns the number of journals that are audited or listed side by side.
 pub fn width<R: Threads>(rt: &R) -> usize
     ensures { 0 < result }
 {
@@ -42,7 +42,7 @@ pub fn width<R: Threads>(rt: &R) -> usize
     }
 }
 
-/// A journal's name, and its file, where it can be opened.
+/// Returns a journal's name, and its file, if it can be opened.
 fn open_next<F: Read + Drop, S: Sources<File = F>>(
     alloc: Global,
     sources: &S,
@@ -56,8 +56,8 @@ fn open_next<F: Read + Drop, S: Sources<File = F>>(
     Ok((own, sources.open(path.as_str()).ok()))
 }
 
-/// The names of journals in a folder, each with its file, where that can be opened: work for as many threads. They end
-/// before one that can't be opened beside those: the system may let no more be open at once.
+/// Opens the journals of these names in a folder, and returns the names and the files, for as many threads. The first
+/// alone may have no file. The list ends before a later one that can't be opened: too many files may be open.
 pub fn open_each<F: Read + Drop, S: Sources<File = F>>(
     alloc: Global,
     sources: &S,
@@ -81,7 +81,7 @@ pub fn open_each<F: Read + Drop, S: Sources<File = F>>(
     Ok(jobs)
 }
 
-/// Reads each journal, in a thread of its own where one can be started, and returns what is told of each.
+/// Reads each journal, in a thread of its own where one can be started, and returns what is printed of each.
 fn tell_jobs<R: Threads + Sync, F: Read + Send + Drop>(
     rt: &R,
     alloc: Global,
@@ -101,7 +101,7 @@ fn tell_jobs<R: Threads + Sync, F: Read + Send + Drop>(
     )
 }
 
-/// Returns what is told of each of these names in a folder, or of as many as can be open at once.
+/// Returns what is printed of each of these names in a folder, or of as many as can be open at once.
 pub(crate) fn tell_names<R: Threads + Sync, F: Read + Send + Drop, S: Sources<File = F>>(
     rt: &R,
     alloc: Global,

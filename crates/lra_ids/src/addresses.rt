@@ -48,7 +48,7 @@ fn slashes(text: &[u8]) -> usize
     text.iter().filter(|b| **b == b'/').count()
 }
 
-// Whether the text has a query or a fragment.
+// Returns whether the text has a query or a fragment.
 pub(crate) fn has_tail(text: &[u8]) -> bool
     ensures { result ≡ list_any (λ b. b == question_mark || b == number_sign) text.now }
 {
@@ -59,7 +59,7 @@ impl Address {
     ghost use Rattle.url.specs.Parts.{serialize};
     ghost use Rattle.lra_ids.specs.inner.Urls.{IsAddressUrl};
 
-    // The URL as an address.
+    // Returns the URL as an address.
     pub(crate) fn of_url(url: Url) -> Address
         requires { IsAddressUrl url }
         ensures { result ≡ serialize url }
@@ -67,7 +67,7 @@ impl Address {
         Address { url }
     }
 
-    /// The text.
+    /// Returns the text.
     pub fn as_str(&self) -> &str
         ensures value { result.now ≡ self.now }
         ensures address { IsTrue (spec.is_address result.now) }
@@ -78,21 +78,21 @@ impl Address {
         self.url.as_str()
     }
 
-    /// The host, and `:` and the port where there is one: the value of a `Host` field (RFC 9110, section 7.2).
+    /// Returns the host, with `:` and the port if there is one: the value of a `Host` field (RFC 9110, section 7.2).
     pub fn authority(&self) -> &str
         ensures { result.now ≡ spec.authority_of self.now }
     {
         self.url.slice(Position::BeforeHost, Position::AfterPort)
     }
 
-    /// The port, where the address names one. Port 80 is the scheme's own, and no address names it.
+    /// Returns the port, if the address names one. Port 80 is the scheme's own, and no address names it.
     pub fn port(&self) -> Option<u16>
         ensures { result ≡ spec.port_of self.now }
     {
         self.url.port()
     }
 
-    /// The path, and `?` and the query where there is one: the target of a request (RFC 9112, section 3.2.1).
+    /// Returns the path, with `?` and the query if there is one: the target of a request (RFC 9112, section 3.2.1).
     pub fn target(&self) -> &str
         ensures { result.now ≡ spec.target_of self.now }
     {
@@ -107,7 +107,7 @@ impl Address {
         ends_in_slash(text) && slashes(text) == 3 && !has_tail(text) && text.len() <= LONGEST_BASE
     }
 
-    /// An equal address.
+    /// Returns an equal address.
     pub fn copy(&self) -> Result<Address, Memory>
         ensures { IfOk result (λ copy. copy ≡ self.now) }
     {
@@ -122,7 +122,7 @@ impl From<Address> for String {
 
     ghost from_gives = { λ address text. string_bytes text ≡ address };
 
-    /// The text, without memory.
+    /// Returns the text. It takes no memory.
     fn from(address: Address) -> String {
         let Address { url } = address;
         String::from(url)

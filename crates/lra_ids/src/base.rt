@@ -10,7 +10,7 @@ use crate::reading::address;
 use lra_model::Memory;
 use std::alloc::Global;
 
-/// The address that a text stands for, where it stands for one.
+/// Returns the address that a text stands for, or None if it stands for none.
 fn address_in(alloc: Global, text: &str) -> Result<Option<Address>, Memory>
     ensures some { IfOk result (λ found. IfSome found (λ own. address_of text.now ≡ Ok own)) }
     ensures none { IfOk result (λ found. found ≡ None → is_address text.now ≡ false) }
@@ -24,14 +24,14 @@ fn address_in(alloc: Global, text: &str) -> Result<Option<Address>, Memory>
     }
 }
 
-/// Returns whether an address is that text, and can be a base.
+/// Returns whether an address has that text, and can be a base.
 fn is_base_at(own: &Address, text: &str) -> bool
     ensures { result ≡ (bytes_eq own.now text.now && is_base own.now) }
 {
     own.as_str() == text && own.is_base()
 }
 
-/// A text as a base, where it is one as it stands.
+/// Returns the base that a text is as it stands, or None if it isn't one.
 fn base_in(alloc: Global, text: &str) -> Result<Option<Address>, Memory>
     ensures text { IfOk result (λ found. IfSome found (λ base. base ≡ text.now)) }
     ensures base { IfOk result (λ found. IfSome found (λ base. is_base base ≡ true)) }
@@ -47,8 +47,8 @@ fn base_in(alloc: Global, text: &str) -> Result<Option<Address>, Memory>
     }
 }
 
-/// The base of the identifiers that are served at an address: `http://`, the address and `/`, where that text is a base
-/// as it stands.
+/// Returns the base of the identifiers that are served at an address: `http://`, the address and `/`, or None if that
+/// text isn't a base as it stands.
 pub fn base_of(alloc: Global, to: &str) -> Result<Option<Address>, Memory>
     ensures text { IfOk result (λ found. IfSome found (λ base. base ≡ base_text to.now)) }
     ensures base { IfOk result (λ found. IfSome found (λ base. is_base base ≡ true)) }

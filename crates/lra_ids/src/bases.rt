@@ -1,4 +1,4 @@
-//! Bases: what the URIs of a coordinator begin with.
+//! Bases: the texts that the URIs of a coordinator begin with.
 
 ghost use Rattle.std.specs.Prelude.{
   ◌≡◌,
@@ -51,7 +51,7 @@ impl Model for Base {
     ghost view = { λ b. string_bytes b.text };
 }
 
-/// Returns whether a URL is one of the web, and names no user.
+/// Returns whether a URL is `http` or `https`, names no user, and has bytes from 0x21 to 0x7E alone.
 fn is_web(url: &Url) -> bool
     ensures { result ≡ is_web url.now }
 {
@@ -75,7 +75,7 @@ fn is_base_url(url: &Url) -> bool
     is_web(url) && is_stem(url.as_str().as_bytes())
 }
 
-/// The URL that a text stands for, where it stands for one.
+/// Returns the URL that a text stands for, or None if it stands for none.
 fn url_in(alloc: Global, text: &str) -> Result<Option<Url>, Memory>
     ensures { IfOk result (λ found. found ≡ url_of text.now) }
 {
@@ -89,8 +89,9 @@ fn url_in(alloc: Global, text: &str) -> Result<Option<Url>, Memory>
 }
 
 impl Base {
-    /// The base that a text stands for, where it stands for one: an `http` or `https` URL by the URL Standard, without
-    /// a user, a query or a fragment, whose path ends in `/`, and whose own text has at most 400 bytes.
+    /// Returns the base that a text stands for, or None if it stands for none. A base is an `http` or `https` URL by
+    /// the URL Standard, without a user, a query or a fragment, whose path ends in `/`, and whose own text has at most
+    /// 400 bytes.
     #[tactic(auto, unfolding(crate::specs::Bases::base_for))]
     pub fn read(alloc: Global, text: &str) -> Result<Option<Base>, Memory>
         ensures { IfOk result (λ found. found ≡ base_for text.now) }
@@ -107,7 +108,7 @@ impl Base {
         }
     }
 
-    /// An address that can be a base, as one.
+    /// Returns the base of an address that can be one.
     pub fn of(address: Address) -> Base
         requires { is_base address ≡ true }
         ensures { result ≡ address }
@@ -117,14 +118,14 @@ impl Base {
         }
     }
 
-    /// The text.
+    /// Returns the text.
     pub fn as_str(&self) -> &str
         ensures { result.now ≡ self.now }
     {
         self.text.as_str()
     }
 
-    /// An equal base.
+    /// Returns an equal base.
     pub fn copy(&self) -> Result<Base, Memory>
         ensures { IfOk result (λ copy. copy ≡ self.now) }
     {
@@ -133,7 +134,7 @@ impl Base {
         })
     }
 
-    /// The URI of action `n` of a coordinator: the base, `lra-coordinator/` and the UUID.
+    /// Returns the URI of action `n` of a coordinator: the base, `lra-coordinator/` and the UUID.
     pub fn spell_action(&self, alloc: Global, instance: Instance, n: u64) -> Result<String, Memory>
         requires positive { 1 ≤ n }
         requires small { n < 2 ^ 62 }
@@ -142,7 +143,7 @@ impl Base {
         spell(alloc, instance, n, self.as_str(), ACTIONS)
     }
 
-    /// The recovery URI of member `n` of a coordinator: the base, `lra-recovery/` and the UUID.
+    /// Returns the recovery URI of member `n` of a coordinator: the base, `lra-recovery/` and the UUID.
     pub fn spell_recovery(
         &self,
         alloc: Global,
@@ -156,7 +157,7 @@ impl Base {
         spell(alloc, instance, n, self.as_str(), RECOVERIES)
     }
 
-    /// The number of the action of which the text is the URI.
+    /// Returns the number of the action whose URI the text is.
     pub fn read_action(&self, text: &str, instance: Instance) -> Option<u64>
         ensures found { IfSome result (IsSpelling (action_uri instance self.now) text.now) }
         ensures all { (n : ℕ) → IsSpelling (action_uri instance self.now) text.now n → result ≡ Some n }
@@ -164,7 +165,7 @@ impl Base {
         read(text, instance, self.as_str(), ACTIONS)
     }
 
-    /// The number of the member of which the text is the recovery URI.
+    /// Returns the number of the member whose recovery URI the text is.
     pub fn read_recovery(&self, text: &str, instance: Instance) -> Option<u64>
         ensures found { IfSome result (IsSpelling (recovery_uri instance self.now) text.now) }
         ensures all { (n : ℕ) → IsSpelling (recovery_uri instance self.now) text.now n → result ≡ Some n }

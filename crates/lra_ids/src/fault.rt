@@ -1,9 +1,9 @@
-//! Why a text is no address.
+//! The reasons why a text is no address.
 
 use thiserror::Error;
 use url::ParseError;
 
-/// Why a text is no address.
+/// The reason why a text is no address.
 #[derive(Clone, Copy, Debug, PartialEq, Eq, Error)]
 pub enum UriFault {
     /// The text isn't a URL by the URL Standard.
@@ -15,7 +15,7 @@ pub enum UriFault {
     /// The text, or the URL's own text, has more than 512 bytes.
     #[error("longer than 512 bytes")]
     TooLong,
-    /// A growth was refused, or the URL's text came to 4 GB.
+    /// An allocation was refused, or the URL's text came to 4 GB.
     #[error("out of memory")]
     Memory,
 }

@@ -29,12 +29,12 @@ use lra_model::{Instance, Memory};
 use std::alloc::Global;
 use uuid::Uuid;
 
-// What stands between the base and the identifier.
+// The part between the base and an action's identifier.
 pub(crate) const ACTIONS: &str = "lra-coordinator/";
 
 pub(crate) const RECOVERIES: &str = "lra-recovery/";
 
-// The UUID of `n`, with the bits of the version and the variant (RFC 9562, sections 4.1 and 4.2).
+// Returns the UUID of `n`, with the bits of the version and the variant (RFC 9562, sections 4.1 and 4.2).
 fn id_of(instance: u64, n: u64) -> Uuid
     requires instance { instance < 2 ^ 60 }
     requires number { n < 2 ^ 62 }
@@ -47,7 +47,7 @@ fn id_of(instance: u64, n: u64) -> Uuid
     Uuid::from_u64_pair(high, low)
 }
 
-// The text of that UUID, written to the front of the buffer.
+// Writes the text of that UUID to the front of the buffer, and returns it.
 fn write_id<'b>(instance: u64, n: u64, buffer: &'b mut [u8]) -> &'b str
     requires instance { instance < 2 ^ 60 }
     requires number { n < 2 ^ 62 }
@@ -58,7 +58,7 @@ fn write_id<'b>(instance: u64, n: u64, buffer: &'b mut [u8]) -> &'b str
     id_of(instance, n).hyphenated().encode_lower(buffer)
 }
 
-// The URI of a part of the coordinator.
+// Returns the URI of `n` in a part of the coordinator: the base, the part and the UUID.
 pub(crate) fn spell(
     alloc: Global,
     instance: Instance,
@@ -79,7 +79,7 @@ pub(crate) fn spell(
     Ok(uri)
 }
 
-// The low 62 bits of the UUID that the text is in any of its forms.
+// Returns the low 62 bits of the UUID that the text is, in any of its forms.
 fn low_bits(text: &[u8]) -> Option<u64>
     ensures small { IfSome result (λ n. n < 2 ^ 62) }
     ensures all { (instance n : ℕ) → instance < 2 ^ 60 → n < 2 ^ 62 → text.now ≡ id_text instance n → result ≡ Some n }
@@ -106,7 +106,7 @@ fn read_bytes(text: &[u8], instance: Instance) -> Option<u64>
     }
 }
 
-// What follows the prefix.
+// Returns the bytes after the prefix.
 fn after_prefix<'a>(text: &'a [u8], prefix: &str) -> Option<&'a [u8]>
     ensures { MatchOption result ((rest : List ℕ) → text.now ≢ prefix.now ++ rest)
         (λ rest. text.now ≡ prefix.now ++ rest.now) }
@@ -122,7 +122,7 @@ pub(crate) fn read(text: &str, instance: Instance, base: &str, part: &str) -> Op
     read_bytes(after_prefix(below, part)?, instance)
 }
 
-/// The URI of action `n` of a coordinator: its base, `lra-coordinator/` and the UUID.
+/// Returns the URI of action `n` of a coordinator: its base, `lra-coordinator/` and the UUID.
 pub fn spell_action(
     alloc: Global,
     instance: Instance,
@@ -137,7 +137,7 @@ pub fn spell_action(
     spell(alloc, instance, n, base.as_str(), ACTIONS)
 }
 
-/// The recovery URI of member `n` of a coordinator: its base, `lra-recovery/` and the UUID.
+/// Returns the recovery URI of member `n` of a coordinator: its base, `lra-recovery/` and the UUID.
 pub fn spell_recovery(
     alloc: Global,
     instance: Instance,
@@ -152,7 +152,7 @@ pub fn spell_recovery(
     spell(alloc, instance, n, base.as_str(), RECOVERIES)
 }
 
-/// The number of the action of which the text is the URI.
+/// Returns the number of the action whose URI the text is.
 pub fn read_action(text: &str, instance: Instance, base: &Address) -> Option<u64>
     ensures found { IfSome result (IsSpelling (action_uri instance base.now) text.now) }
     ensures all { (n : ℕ) → IsSpelling (action_uri instance base.now) text.now n → result ≡ Some n }
@@ -160,7 +160,7 @@ pub fn read_action(text: &str, instance: Instance, base: &Address) -> Option<u64
     read(text, instance, base.as_str(), ACTIONS)
 }
 
-/// The number of the member of which the text is the recovery URI.
+/// Returns the number of the member whose recovery URI the text is.
 pub fn read_recovery(text: &str, instance: Instance, base: &Address) -> Option<u64>
     ensures found { IfSome result (IsSpelling (recovery_uri instance base.now) text.now) }
     ensures all { (n : ℕ) → IsSpelling (recovery_uri instance base.now) text.now n → result ≡ Some n }
@@ -168,7 +168,7 @@ pub fn read_recovery(text: &str, instance: Instance, base: &Address) -> Option<u
     read(text, instance, base.as_str(), RECOVERIES)
 }
 
-/// The number of the action or the member of which the text is the UUID.
+/// Returns the number of the action or the member whose UUID the text is.
 pub fn read_id(text: &str, instance: Instance) -> Option<u64>
     ensures found { IfSome result (IsSpelling (id_text instance) text.now) }
     ensures all { (n : ℕ) → IsSpelling (id_text instance) text.now n → result ≡ Some n }

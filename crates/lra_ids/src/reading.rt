@@ -1,4 +1,4 @@
-//! Reads addresses from texts.
+//! The reader of addresses from texts.
 
 ghost use Rattle.std.specs.Prelude.{◌≡◌, ◌≢◌, ℕ, ◌<◌, List, All, IsTrue, Ok, Err, IfOk, IfErr};
 ghost use Rattle.std.specs.List.{list_all};
@@ -12,23 +12,23 @@ use std::alloc::Global;
 use std::str;
 use url::Url;
 
-// Whether each byte is one from 0x21 to 0x7E.
+// Returns whether each byte is one from 0x21 to 0x7E.
 pub(crate) fn is_graphic(text: &[u8]) -> bool
     ensures { result ≡ list_all is_ascii_graphic text.now }
 {
     text.iter().all(|b| b.is_ascii_graphic())
 }
 
-// Whether the URL is one that an address may be.
+// Returns whether the URL may be that of an address, whatever its length.
 fn is_http(url: &Url) -> bool
     ensures { result ≡ is_http url.now }
 {
     url.scheme() == "http" && is_graphic(url.as_str().as_bytes())
 }
 
-/// The address that a text stands for by the URL Standard. The faults are looked for in this order: a text of more than
-/// 512 bytes, one that is no URL, a URL whose scheme isn't `http` or whose own text has a byte outside 0x21 to 0x7E,
-/// and one whose own text has more than 512 bytes. Where a growth is refused the answer is `Memory` at once.
+/// Returns the address that a text stands for by the URL Standard. Looks for faults in this order: a text of more than
+/// 512 bytes, a text that is no URL, a URL whose scheme isn't `http` or whose own text has a byte outside 0x21 to 0x7E,
+/// and a URL whose own text has more than 512 bytes. If an allocation is refused, returns `Memory` at once.
 pub fn address(alloc: Global, text: &str) -> Result<Address, UriFault>
     ensures ok { IfOk result (λ address. address_of text.now ≡ Ok address) }
     ensures fault { IfErr result (λ fault. fault ≢ UriFault.Memory → address_of text.now ≡ Err fault) }
@@ -46,7 +46,7 @@ pub fn address(alloc: Global, text: &str) -> Result<Address, UriFault>
     Ok(Address::of_url(url))
 }
 
-/// Returns whether a text is an address as it stands: the one that [`address`] gives for it.
+/// Returns whether a text is an address as it stands: whether [`address`] returns an address with this text.
 pub fn is_address_text(alloc: Global, text: &[u8]) -> Result<bool, Memory>
     ensures { IfOk result (λ own. own ≡ is_address text.now) }
 {
@@ -62,7 +62,7 @@ pub fn is_address_text(alloc: Global, text: &[u8]) -> Result<bool, Memory>
     }
 }
 
-/// The address that a text stands for stands for itself.
+/// States that the address that a text stands for stands for itself.
 pub fn address_stands_for_itself()
     ensures { (text own : List ℕ) → All (λ b. b < 256) text → address_of text ≡ Ok own
         → IsTrue (is_address own) }

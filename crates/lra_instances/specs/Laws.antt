@@ -11,11 +11,11 @@ IsBorne i n = (i < 2 ^ 60) × (n < 2 ^ 62)
 abbrev pub AreOfOneInstance : Type 0
 AreOfOneInstance = (i j n m : ℕ) → IsBorne i n → IsBorne j m → id_text i n ≡ id_text j m → (i ≡ j) × (n ≡ m)
 
--- an identifier bears its instance
+-- the instance that is read from an identifier is its own
 abbrev pub AreReadWhole : Type 0
 AreReadWhole = (i n : ℕ) → IsBorne i n → instance_in (id_text i n) ≡ Some i
 
--- so do the URIs of actions and the recovery URIs of members, whatever their base
+-- so is the one that is read from the URI of an action or the recovery URI of a member, whatever the base
 abbrev pub AreReadAtEnds : Type 0
 AreReadAtEnds = (i n : ℕ) (base : List ℕ) → IsBorne i n
     → (instance_at_end (action_uri i base n) ≡ Some i) × (instance_at_end (recovery_uri i base n) ≡ Some i)

@@ -1,4 +1,4 @@
-//! Reads the instances of identifiers.
+//! The reader of the instances of identifiers.
 
 ghost use Rattle.std.specs.Prelude.{◌≡◌};
 ghost use Rattle.lra_instances.specs.Bearing as spec;
@@ -9,8 +9,8 @@ use uuid::Uuid;
 /// The number of characters in the text of an identifier.
 const ID_LENGTH: usize = 36;
 
-/// The instance that a text bears, where it is a UUID in any of its forms. Whether it is spelled as an identifier isn't
-/// looked at.
+/// Returns the instance in a text that is a UUID in any of its forms. Doesn't check whether the text is spelled as an
+/// identifier.
 pub fn instance_in(text: &[u8]) -> Option<Instance>
     ensures { result ≡ spec.instance_in text.now }
 {
@@ -18,7 +18,7 @@ pub fn instance_in(text: &[u8]) -> Option<Instance>
     Instance::new(high / (1 << 16) * (1 << 12) + high % (1 << 12))
 }
 
-/// The instance that a URI bears at its end.
+/// Returns the instance in the last 36 bytes of a URI, or in all its bytes if it has fewer.
 pub fn instance_at_end(uri: &[u8]) -> Option<Instance>
     ensures { result ≡ spec.instance_at_end uri.now }
 {

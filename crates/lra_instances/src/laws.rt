@@ -2,8 +2,8 @@
 
 ghost use Rattle.lra_instances.specs.Laws.{AreOfOneInstance, AreReadAtEnds, AreReadWhole};
 
-/// An identifier is of one instance alone, and of one number; and that instance is the one that is read from it, and
-/// from the URIs that end in it, whatever base they have.
+/// States that an identifier is of one instance alone, and of one number. That instance is the one that is read from
+/// it, and from the URIs that end in it, whatever base they have.
 pub fn identifiers_are_of_one_instance()
     ensures alone { AreOfOneInstance }
     ensures whole { AreReadWhole }

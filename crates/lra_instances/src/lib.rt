@@ -1,4 +1,4 @@
-//! Which instance an identifier bears.
+//! The instance of which an identifier is.
 #![tactic(auto)]
 
 mod bearing;

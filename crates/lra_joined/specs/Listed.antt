@@ -21,7 +21,7 @@ IsListed i digest ns = (rank : ℕ) → number_at i digest rank ≡ slice_get ns
 abbrev pub IsCounted : Indexed → ℕ → Type 0
 IsCounted i digest = (ns : List ℕ) × IsListed i digest ns × (length ns < 2 ^ 64)
 
--- numbers without the first that is one (this project's choice)
+-- numbers without the first that equals a given one (this project's choice)
 abbrev pub without : ℕ → List ℕ → List ℕ
 without n [] = []
 without n (m ∷ ms) = cond (m == n) ms (m ∷ without n ms)

@@ -9,7 +9,7 @@ use lra_model::Uris;
 use lra_packed::Packed;
 use std::hash::{DefaultHasher, Hasher};
 
-/// The text of an address, if there is one.
+/// Returns the text of an address, if there is one.
 fn borrowed(text: &Option<String>) -> Option<&str>
     ensures { option_copied result ≡ text_of text.now }
 {
@@ -19,7 +19,7 @@ fn borrowed(text: &Option<String>) -> Option<&str>
     }
 }
 
-/// The hasher is fed an address, or that there is none.
+/// Feeds an address to the hasher, or that there is none.
 fn feed(state: &mut DefaultHasher, text: Option<&str>)
     ensures { state.new ≡ words.fed (option_copied text.entry) state.old }
 {
@@ -33,7 +33,7 @@ fn feed(state: &mut DefaultHasher, text: Option<&str>)
     }
 }
 
-/// The digest of an action and five addresses under a key.
+/// Returns the digest of an action and five addresses under a key.
 #[tactic(auto, unfolding(crate::specs::Digests::digest_of))]
 fn digest(
     key: u128,
@@ -63,7 +63,7 @@ fn digest(
     state.finish()
 }
 
-/// The digest of an action and addresses.
+/// Returns the digest of an action and addresses under a key.
 pub(crate) fn digest_of(key: u128, action: u64, uris: &Uris) -> u64
     ensures { result ≡ words.digest_of key action uris.now }
 {
@@ -78,7 +78,7 @@ pub(crate) fn digest_of(key: u128, action: u64, uris: &Uris) -> u64
     )
 }
 
-/// The digest of an action and addresses that are kept.
+/// Returns the digest of an action and packed addresses under a key.
 pub(crate) fn digest_of_kept(key: u128, action: u64, uris: &Packed) -> u64
     ensures { result ≡ words.digest_of key action uris.now }
 {

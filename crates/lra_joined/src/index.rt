@@ -67,14 +67,14 @@ fn put(numbers: &mut HashMap<(u64, u64), u64>, digest: u64, rank: u64, number: u
     }
 }
 
-/// The number at a rank.
+/// Returns the number at a rank, if there is one.
 fn get(numbers: &HashMap<(u64, u64), u64>, digest: u64, rank: u64) -> Option<u64>
     ensures { result ≡ at numbers.now digest rank }
 {
     numbers.get(&(digest, rank)).copied()
 }
 
-/// The first rank that is free.
+/// Returns the first rank that is free.
 fn count(numbers: &HashMap<(u64, u64), u64>, digest: u64) -> u64
     requires { IsCountable numbers.now digest }
     ensures { (ns : List ℕ) → IsList numbers.now digest ns → result ≡ length ns }
@@ -87,7 +87,7 @@ fn count(numbers: &HashMap<(u64, u64), u64>, digest: u64) -> u64
     u64::MAX
 }
 
-/// The first rank of a number, if it is there.
+/// Returns the first rank of a number, if it is there.
 fn rank_of(numbers: &HashMap<(u64, u64), u64>, digest: u64, number: u64) -> Option<u64>
     requires { IsCountable numbers.now digest }
     ensures { MatchOption result (IsMissing numbers.now digest number) (IsFirstRank numbers.now digest number) }
@@ -105,7 +105,7 @@ fn rank_of(numbers: &HashMap<(u64, u64), u64>, digest: u64, number: u64) -> Opti
     None
 }
 
-/// Takes the number at a rank away, and moves those that come after it.
+/// Removes the number at a rank, and moves each one after it to the rank before.
 fn close(numbers: &mut HashMap<(u64, u64), u64>, digest: u64, rank: u64)
     requires countable { IsCountable numbers.old digest }
     requires there { IsSome (at numbers.old digest rank) }
@@ -125,7 +125,7 @@ fn close(numbers: &mut HashMap<(u64, u64), u64>, digest: u64, rank: u64)
 }
 
 impl Index {
-    /// With no numbers. The key is a secret that makes digests unforeseeable.
+    /// Returns an index of no numbers. The key is a secret that makes digests unpredictable.
     pub fn new(alloc: Global, key: u128) -> Index
         ensures key { result.key ≡ key }
         ensures listed { (digest : ℕ) → IsListed result digest [] }
@@ -136,14 +136,14 @@ impl Index {
         }
     }
 
-    /// The digest of an action and addresses.
+    /// Returns the digest of an action and addresses.
     pub fn digest(&self, action: u64, uris: &Uris) -> u64
         ensures { result ≡ digest_of self.now.key action uris.now }
     {
         digest_of(self.key, action, uris)
     }
 
-    /// The digest of an action and addresses that are kept.
+    /// Returns the digest of an action and packed addresses.
     pub fn digest_of_kept(&self, action: u64, uris: &Packed) -> u64
         ensures { result ≡ digest_of self.now.key action uris.now }
     {
@@ -162,7 +162,7 @@ impl Index {
         Ok(())
     }
 
-    /// The number at a place of those under a digest, counted from 0, where there are so many.
+    /// Returns the number at a rank under a digest, counted from 0, if there are so many.
     pub fn number(&self, digest: u64, rank: u64) -> Option<u64>
         ensures { result ≡ number_at self.now digest rank }
     {
@@ -182,7 +182,7 @@ impl Index {
         let _ = self.numbers.insert((digest, rank), number);
     }
 
-    /// Takes a number away from those under a digest, the first where it is there more than once.
+    /// Removes a number from those under a digest, the first where it is there more than once.
     pub fn remove(&mut self, digest: u64, number: u64)
         requires { IsCounted self.old digest }
         ensures key { self.new.key ≡ self.old.key }

@@ -1,5 +1,5 @@
-//! Numbers by digests of an action and the addresses of a member, so that who has joined with the same addresses is
-//! found at a cost that doesn't grow with how many have joined.
+//! Numbers by digests of an action and a member's addresses. So a member that joined with the same addresses is found
+//! at a cost that doesn't grow with the number of members.
 #![tactic(auto)]
 
 mod digest;

@@ -1,4 +1,4 @@
--- What is told after all that a command appends.
+-- What is returned after all that a command appends.
 use Rattle.std.proofs.Common.{◌≡◌, ℕ, ◌+◌, ◌<◌, Bool, true, false, List, [], ◌∷◌, ◌++◌, length, take, get_or, Option}
 use Rattle.std.proofs.Common.{Some, None, Ok, refl, sym, ap, ◌∙◌, subst, append_assoc, cond, max, length-append, eq-eqb}
 use Rattle.std.specs.Prelude.{◌||◌, ◌&&◌, not, is_some, option_map, option_to_list, unwrap_or}
@@ -162,14 +162,14 @@ report_after J by m p e asked =
     ap (λ (L : History). member_status L p) (apart J x) ∙ status_settled (most_settling K) by m K p (status_told e) now
     (told_is_decided e)
 
--- ---- what is told
+-- ---- what is returned
 
 -- the deed of a test that holds
 when_holds : (b : Bool) (x d : Deed) → when b x ≡ Some d → (b ≡ true) × (x ≡ d)
 when_holds true x d h = (refl, cc)
 when_holds false x d h = absurd cc
 
--- what a call is told by its block, whose own entry is of this deed
+-- what a call returns for its block, whose own entry is of this deed
 abbrev TellsBy : Terms → History → Call → Deed → Type 0
 TellsBy s J c d = tells s J (J ++ with_settling J (entry_of J c d)) (moment_of J c) c.command
     ≡ told_to c.command (with_settling J (entry_of J c d))

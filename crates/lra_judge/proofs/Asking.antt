@@ -1,4 +1,4 @@
--- What is decided on the commands that only ask, and what each query is told.
+-- What is decided on the commands that only ask, and what each query returns.
 use Rattle.std.proofs.Common.{◌≡◌, ℕ, Bool, true, false, [], Some, Ok, Err, Result, refl, cond, inl}
 use Rattle.lra_model.specs.History.{History, clerks, actions, members, is_among}
 use Rattle.lra_model.specs.Members.{member_status}
@@ -37,7 +37,7 @@ ask_decides s J by h o q e = let k = commands_ask s J c q e in one (is_among (cl
     one true (Err r) a n = inl a
     one false x a n = inl a
 
--- ---- what each query is told
+-- ---- what each query returns
 
 pub tell_status : (l : Limits) (J : History) (a : ℕ) → tell l J (query.ActionStatus a)
     ≡ known_where (is_among (actions J) a) (known.ActionIs (status_at J a)) refusal.NoSuchAction

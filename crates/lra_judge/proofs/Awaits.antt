@@ -43,7 +43,7 @@ compensates v t J l p = one (is_among (members J) p) refl
     one true h = refl
     one false h = sym (ap (λ (r : rows.MemberRow). r.addresses.compensate) (absent_row v t J l p h))
 
--- a member holds the end where it stays, and is waited for
+-- a member blocks the end where it hasn't left, and is waited for
 member_waits : (v : Version) (t : List ℕ → Bool) (J : History) → is_legal v t J ≡ true → (status : ActionStatus) (p : ℕ)
     → (can_compensate J p && waits_for_found status J p) ≡ (stays J p && waits_for_member status (member_status J p))
 unfolding stays

@@ -16,7 +16,7 @@ use Rattle.lra_judge.proofs.OnActions.{close_decides, cancel_decides, tick_decid
 use Rattle.lra_judge.proofs.OnMembers.{join_decides, leave_decides, report_decides}
 use Rattle.lra_judge.proofs.OnAsks.{next_ask_decides, record_decides, restart_decides}
 
--- what holds of what was judged holds of the result
+-- what holds of what was validated holds of the result
 moved : (s : Terms) (J : History) (by h : ℕ) (o : Command) (r j : Judged) → r ≡ j → IsDecided s J (call by h o) j
     → IsDecided s J (call by h o) r
 moved s J by h o r j is d = subst (λ (x : Judged). IsDecided s J (call by h o) x) (sym is) d

@@ -90,12 +90,12 @@ first_is zero ((r, false) ∷ gs) q h = let k = h.0 in absurd cc
 first_is (suc n) ((r, true) ∷ gs) q h = let k = h.0 in absurd cc
 first_is (suc n) ((r, false) ∷ gs) q h = first_is n gs q h.1
 
--- it decides
+-- this ground decides
 pub first_decides : (s : Terms) (J : History) (c : Call) (n : ℕ) (r : Refusal) → is_stranger J c.by c.command ≡ false
     → IsFirst n (command_grounds s J (moment_of J c) c.command) r → IsDecided s J c (Err r)
 first_decides s J c n r here h = held s J c r here (first_is n (command_grounds s J (moment_of J c) c.command) r h)
 
--- no ground holds but what there may be too much of
+-- no ground holds but those of too much
 pub record IsFree (s : Terms) (J : History) (c : Call) : Type 0 where
   pub here : is_stranger J c.by c.command ≡ false
   pub free : first_ground (command_grounds s J (moment_of J c) c.command) ≡ None
@@ -111,7 +111,7 @@ pub block_of : (s : Terms) (J : History) (c : Call) (o : Option Deed) → own_de
 unfolding block
 block_of s J c o h = ap (λ (x : Option Deed). option_map_or (with_settling J) (option_map (entry_of J c) x) []) h
 
--- what there may be too much of, where these entries are appended
+-- the grounds of too much, where these entries are appended
 abbrev grounds_after : Limits → History → List Entry → List Ground
 grounds_after l J es =
     (refusal.Full resource.Clerks, is_filled es && passes l resource.Clerks (J ++ es))
@@ -154,7 +154,7 @@ block_same J e =
           ∙ k.members;
     }
 
--- the tests of what there may be too much of, as the grounds that they are
+-- the tests of too much, as the grounds that they are
 abbrev four : Limits → Bool → Bool → Bool → Bool → List Ground
 four l clerks actions members entries =
     (refusal.Full resource.Clerks, clerks) ∷ (refusal.Full resource.Actions, actions)

@@ -1,4 +1,4 @@
--- What is told along rows, from a place on.
+-- What a query returns along rows, from a place on.
 use Rattle.std.proofs.Common.{◌≡◌, ℕ, zero, suc, ◌+◌, ◌-◌, ◌≤◌, ◌<◌, Bool, true, false, List, [], ◌∷◌, length, take}
 use Rattle.std.proofs.Common.{drop, Option, Some, None, refl, sym, ap, ◌∙◌, cond, min, arith}
 use Rattle.std.proofs.lemmas.List.{drop_all}
@@ -31,7 +31,7 @@ use Rattle.lra_judge.proofs.Listings.{gone, row_is, count_is}
 
 -- ---- place by place
 
--- something is told of the first place
+-- something is returned of the first place
 told_here : (f : ℕ → Option Known) (none : Known) (at n : ℕ) → is_some (f at) ≡ true → first_some f none at (suc n)
     ≡ unwrap_or (f at) none
 unfolding first_some
@@ -41,7 +41,7 @@ told_here f none at n h = by (f at) h
     by None h = absurd cc
     by (Some x) h = refl
 
--- nothing is
+-- nothing is returned of it
 told_later : (f : ℕ → Option Known) (none : Known) (at n : ℕ) → is_some (f at) ≡ false → first_some f none at (suc n)
     ≡ first_some f none (at + 1) n
 unfolding first_some
@@ -52,7 +52,7 @@ told_later f none at n h = by (f at) h
     by None h = refl
     by (Some x) h = absurd cc
 
--- nothing is told from there on
+-- nothing is returned from there on
 none_past : (f : ℕ → Option Known) (none : Known) (at n : ℕ) → ((k : ℕ) → at ≤ k → f k ≡ None) → first_some f none at n
     ≡ none
 unfolding first_some
@@ -68,11 +68,11 @@ drop_there (y ∷ ys) zero x h = let e : y ≡ x = cc in ap (λ z. z ∷ ys) e
 drop_there (y ∷ ys) (suc i) x h = let e : suc (i + 1) ≡ suc i + 1 = omega arith in
     drop_there ys i x h ∙ ap (λ k. x ∷ drop k (y ∷ ys)) e
 
--- what is told of a list of rows, the first of which is at a place
+-- what is returned of a list of rows, the first of which is at a place
 abbrev seen : {X : Type 0} → (X → Bool) → (ℕ → X → Known) → Known → ℕ → List X → Known
 seen test told none at xs = option_map_or (told (at + position_or_len test xs)) (find test xs) none
 
--- what is told place by place is what is told of the list
+-- what is returned place by place is what is returned of the list
 told_along : {X : Type 0} (test : X → Bool) (told : ℕ → X → Known) (none : Known) (xs : List X) (n at : ℕ)
     → first_some (λ k. told_at test told k (slice_get xs k)) none at n ≡ seen test told none at (take n (drop at xs))
 unfolding first_some
@@ -124,7 +124,7 @@ none_left l s J k w none place n e = by (most_rows - n) refl
     by (suc m) g = none_past (look l J w) none (place + n) (suc m) (λ i h. past_rows l k.version k.is_address J k.legal
         w i (omega (arith, e, g, h)))
 
--- something is told of the next row, or nothing
+-- something is returned of the next row, or nothing
 pub told_next : (l : Limits) (J : History) (w : Walk) (none : Known) (place n : ℕ) (told : Option Known) → n < most_rows
     → told ≡ look l J w (place + n) → is_some told ≡ true
     → first_some (look l J w) none (place + n) (most_rows - n) ≡ unwrap_or told none
@@ -143,7 +143,7 @@ passed_over l J w none place n told lt g h =
     ap (first_some (look l J w) none (place + n)) e ∙ told_later (look l J w) none (place + n) (most_rows - (n + 1))
     (ap is_some (sym g) ∙ h) ∙ ap (λ m. first_some (look l J w) none m (most_rows - (n + 1))) f
 
--- ---- what is told of the history
+-- ---- what is returned of the history
 
 awaited_found : (m : Limits) (v : Version) (t : List ℕ → Bool) (J : History) → is_legal v t J ≡ true
     → (a place : ℕ) (status : ActionStatus)

@@ -22,19 +22,19 @@ use Rattle.lra_judge.specs.declared.beside.Beside.{Beside}
 use Rattle.lra_judge.specs.declared.decision.Decision.{Decision}
 use Rattle.lra_judge.specs.declared.decision.Decision.TheVariants as decision
 
--- what a command reads beside the tables is what the history says at the moment of what it writes
+-- what a command reads that the tables don't have is what the history says at the moment of what it writes
 abbrev pub IsBeside : Terms → History → ℕ → Command → Beside → Type 0
 IsBeside s J m command.NextAsk x = x.due ≡ due s.limits J m
 IsBeside s J m command.Tick x = x.late ≡ late J m
 IsBeside s J m _ x = Unit {0}
 
--- a call is told so, and appends nothing
+-- a call returns this, and appends nothing
 pub record IsTold (s : Terms) (J : History) (c : Call) (t : Told) : Type 0 where
   pub answered : answer s J c ≡ Ok t
   pub nothing : block s J c ≡ []
 
--- a call writes this entry of its own, which may come now, and nothing speaks against it but too many entries, all that
--- settles counted
+-- a call writes this entry of its own, which may come now, and nothing refuses it but too many entries, those that
+-- settle counted
 pub record IsWritten (s : Terms) (J : History) (c : Call) (e : Entry) : Type 0 where
   pub own : own_entry s J c ≡ Some e
   pub allowed : allows s.version is_address J e ≡ true
@@ -56,7 +56,7 @@ pub record LacksMemory (J : History) (c : Call) (r : Refusal) : Type 0 where
   pub memory : r ≡ refusal.Memory
   pub reads : reads_addresses J c ≡ true
 
--- a call is refused so, or no memory was left to read its addresses
+-- a call is refused for this, or no memory was left to read its addresses
 abbrev pub IsRefused : Terms → History → Call → Refusal → Type 0
 IsRefused s J c r = (answer s J c ≡ Err r) ⊎ LacksMemory J c r
 

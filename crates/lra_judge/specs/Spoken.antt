@@ -9,7 +9,7 @@ use Rattle.lra_judge.specs.declared.errand.Carried.{Carried}
 abbrev pub carried_of : Asking → Carried
 carried_of e = record { ask = e.ask; member = e.member; kind = e.kind; direction = e.direction }
 
--- a command, with its errand as what it says
+-- a command's value: its errand as what it says
 abbrev pub spoken : {E : Type 0} → (E → Asking) → CommandOf E → Command
 spoken asking command.Enrol = command.Enrol
 spoken asking (command.Start parent limit) = command.Start parent limit

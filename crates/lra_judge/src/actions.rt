@@ -8,7 +8,7 @@ use crate::judge::Judge;
 use lra_commands::{Refusal, Resource, Told};
 use lra_model::{ActionStatus, Cause, Deed, Version};
 
-/// That the version of the journal has renewed limits.
+/// Checks that the version of the journal allows renewals of limits.
 fn require_newer(version: Version) -> Result<(), Refusal>
     ensures { result ≡ judged.newer version }
 {
@@ -25,8 +25,7 @@ impl Judge<'_> {
     ghost use Rattle.lra_model.specs.declared.entry.Deed.TheVariants as deed;
     ghost use Rattle.lra_judge.specs.inner.Judged as judged;
 
-    /// Returns the depth of the action that a new one is to be nested in, where it is Active; 0 where there is to be
-    /// none.
+    /// Returns the depth of a new action's parent, which has to be Active; 0 where there is to be none.
     fn depth_above(&self, parent: Option<u64>) -> Result<u64, Refusal>
         ensures { (J : History) → StandsFor self.now.tables.now.sheet J → result ≡ judged.depth_above J parent }
     {
@@ -39,7 +38,7 @@ impl Judge<'_> {
         }
     }
 
-    /// The number of a new action.
+    /// Returns the number of a new action, unless there are as many as the limits allow.
     fn new_action(&self) -> Result<u64, Refusal>
         ensures { (J : History) → StandsFor self.now.tables.now.sheet J → result
             ≡ judged.new_action self.now.terms.limits J }
@@ -51,7 +50,7 @@ impl Judge<'_> {
         Ok(actions + 1)
     }
 
-    /// That an action below one of that depth isn't nested too deep.
+    /// Checks that an action below one of that depth isn't nested too deep.
     fn require_shallow(&self, above: u64) -> Result<(), Refusal>
         ensures { result ≡ judged.shallow self.now.terms.limits above }
     {
@@ -62,7 +61,7 @@ impl Judge<'_> {
         }
     }
 
-    /// The start of an action.
+    /// Decides on the start of an action.
     pub(crate) fn start(&self, parent: Option<u64>, limit: u64) -> Result<Decision, Refusal>
         ensures { (J : History) → StandsFor self.now.tables.now.sheet J → result
             ≡ judged.start self.now.terms.limits J self.now.by self.now.moment parent limit }
@@ -79,7 +78,8 @@ impl Judge<'_> {
         }))
     }
 
-    /// The close of an action: taken where it is Active, refused where it is being cancelled or was, and else a repeat.
+    /// Decides on the close of an action: it is accepted where the action is Active, refused where it is being
+    /// cancelled or was, and else a repeat.
     pub(crate) fn close(&self, action: u64) -> Result<Decision, Refusal>
         ensures { (J : History) → StandsFor self.now.tables.now.sheet J → result
             ≡ judged.close J self.now.by self.now.moment action }
@@ -106,7 +106,7 @@ impl Judge<'_> {
         }
     }
 
-    /// Returns whether there is an action above and it is Active.
+    /// Returns whether there is a parent and it is Active.
     fn is_open_above(&self, parent: Option<u64>) -> bool
         ensures { (J : History) → StandsFor self.now.tables.now.sheet J → result ≡ judged.is_open_above J parent }
     {
@@ -119,7 +119,7 @@ impl Judge<'_> {
         }
     }
 
-    /// Returns whether the version lets a client take back what has closed.
+    /// Returns whether the version lets a client cancel an action that has closed.
     fn takes_back(&self) -> bool
         ensures { result ≡ judged.takes_back self.now.terms.version }
     {
@@ -129,8 +129,9 @@ impl Judge<'_> {
         }
     }
 
-    /// The cancel of an action: taken where it is Active, or has closed and may be taken back; refused where it is
-    /// being closed or was; and else a repeat.
+    /// Decides on the cancel of an action: it is accepted where the action is Active, or is Closed below an Active
+    /// parent and the version allows that; it is refused where the action is being closed or was; and else it is a
+    /// repeat.
     pub(crate) fn cancel(&self, action: u64) -> Result<Decision, Refusal>
         ensures { (J : History) → StandsFor self.now.tables.now.sheet J → result
             ≡ judged.cancel self.now.terms.version J self.now.by self.now.moment action }
@@ -162,7 +163,7 @@ impl Judge<'_> {
         self.write(Deed::Cancel { action, cause })
     }
 
-    /// The cancel of the action that is late, if one is.
+    /// Decides on a tick: it cancels the action that is late, if one is.
     pub(crate) fn tick(&self, late: Option<u64>) -> Result<Decision, Refusal>
         ensures { (J : History) → StandsFor self.now.tables.now.sheet J → result
             ≡ judged.tick J self.now.by self.now.moment late }
@@ -174,7 +175,7 @@ impl Judge<'_> {
         })
     }
 
-    /// A new limit of an action.
+    /// Decides on a new limit of an action.
     pub(crate) fn renew(&self, action: u64, limit: u64) -> Result<Decision, Refusal>
         ensures { (J : History) → StandsFor self.now.tables.now.sheet J → result
             ≡ judged.renew self.now.terms.version J self.now.by self.now.moment action limit }

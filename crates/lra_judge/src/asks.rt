@@ -11,21 +11,21 @@ use lra_commands::{Refusal, Told};
 use lra_model::{AskKind, Deed, Direction, Outcome};
 use lra_tables::AskRow;
 
-/// Returns whether two kinds are one.
+/// Returns whether two kinds are the same.
 fn is_same_kind(left: AskKind, right: AskKind) -> bool
     ensures { result ≡ words.same_kind left right }
 {
     left == right
 }
 
-/// Returns whether two directions are one.
+/// Returns whether two directions are the same.
 fn is_same_direction(left: Direction, right: Direction) -> bool
     ensures { result ≡ words.same_direction left right }
 {
     left == right
 }
 
-/// Returns whether an ask is outstanding and the errand's.
+/// Returns whether an ask is outstanding, and has the errand's member, kind and direction.
 fn is_carried(errand: Carried, row: AskRow) -> bool
     ensures { result ≡ judged.is_carried errand row }
 {
@@ -41,14 +41,14 @@ impl Judge<'_> {
     ghost use Rattle.lra_laws.specs.Sheets.{StandsFor};
     ghost use Rattle.lra_judge.specs.inner.Judged as judged;
 
-    /// Returns what a member wants to be asked.
+    /// Returns the kind of ask that a member wants next.
     fn wanted_by(&self, member: u64) -> Option<AskKind>
         ensures { (J : History) → StandsFor self.now.tables.now.sheet J → result ≡ judged.wanted_by J member }
     {
         self.tables.member(member)?.want
     }
 
-    /// The ask of what the member wants whose want is due, if one is.
+    /// Decides on the next ask: of the member whose want is due, if one is, for what it wants.
     pub(crate) fn next_ask(&self, due: Option<u64>) -> Result<Decision, Refusal>
         ensures { (J : History) → StandsFor self.now.tables.now.sheet J → result
             ≡ judged.next_ask J self.now.by self.now.moment due }
@@ -74,7 +74,7 @@ impl Judge<'_> {
         }
     }
 
-    /// That an ask is outstanding and the errand's.
+    /// Checks that the errand's ask is outstanding, and has the errand's member, kind and direction.
     fn require_awaited(&self, errand: Carried) -> Result<(), Refusal>
         ensures { (J : History) → StandsFor self.now.tables.now.sheet J → result ≡ judged.awaited J errand }
     {
@@ -84,7 +84,7 @@ impl Judge<'_> {
         }
     }
 
-    /// Records what came of an ask, where it is outstanding and the errand's.
+    /// Records the outcome of the errand's ask, where that is outstanding and has its member, kind and direction.
     pub(crate) fn record(&self, errand: Carried, outcome: Outcome) -> Result<Decision, Refusal>
         ensures { (J : History) → StandsFor self.now.tables.now.sheet J → result
             ≡ judged.reply J self.now.by self.now.moment errand outcome }
@@ -97,7 +97,7 @@ impl Judge<'_> {
         }))
     }
 
-    /// A restart, which makes every outstanding ask void.
+    /// Decides on a restart, which makes every outstanding ask void.
     pub(crate) fn restart(&self) -> Result<Decision, Refusal>
         ensures { (J : History) → StandsFor self.now.tables.now.sheet J → result
             ≡ judged.restart J self.now.by self.now.moment }

@@ -1,4 +1,4 @@
-//! The rows of an action, and which of them hold its end.
+//! The rows of an action, and which of them block its end.
 
 ghost use Rattle.std.specs.Prelude.{◌≡◌, length, slice_get};
 ghost use Rattle.lra_model.specs.Words as words;
@@ -10,7 +10,7 @@ use lra_commands::{Awaited, Known};
 use lra_model::{ActionStatus, MemberStatus};
 use lra_tables::{MemberRow, Tables};
 
-/// Returns whether a Closing action needn't wait for a member.
+/// Returns whether a Closing action needn't wait for a member with this status.
 fn is_done_completing(status: MemberStatus) -> bool
     ensures { result ≡ words.is_done_completing status }
 {
@@ -20,7 +20,7 @@ fn is_done_completing(status: MemberStatus) -> bool
     )
 }
 
-/// Returns whether a Cancelling action needn't wait for a member.
+/// Returns whether a Cancelling action needn't wait for a member with this status.
 fn is_done_compensating(status: MemberStatus) -> bool
     ensures { result ≡ words.is_done_compensating status }
 {
@@ -74,14 +74,14 @@ fn can_compensate(tables: &Tables, member: u64) -> bool
     }
 }
 
-/// Returns whether an action with this status waits for a member: it hasn't left.
+/// Returns whether an action with this status waits for a member, which it doesn't once the member has left.
 fn waits_for_row(status: ActionStatus, row: &MemberRow) -> bool
     ensures { result ≡ awaits.waits_for_row status row.now }
 {
     !row.status.has_gone() && waits_for_member(status, row.status)
 }
 
-/// The same of a member by its number.
+/// Returns whether an action with this status waits for the member of that number, if it is there.
 fn waits_for(tables: &Tables, status: ActionStatus, member: u64) -> bool
     ensures { (J : History) → StandsFor tables.now.sheet J → result ≡ awaits.waits_for_found status J member }
 {
@@ -91,7 +91,7 @@ fn waits_for(tables: &Tables, status: ActionStatus, member: u64) -> bool
     }
 }
 
-/// The status of an action.
+/// Returns the status of an action; Active where it isn't there.
 fn status_of(tables: &Tables, action: u64) -> ActionStatus
     ensures { (J : History) → StandsFor tables.now.sheet J → result ≡ awaits.found_status J action }
 {
@@ -101,7 +101,7 @@ fn status_of(tables: &Tables, action: u64) -> ActionStatus
     }
 }
 
-/// Returns whether a row holds the end of an action with this status.
+/// Returns whether a row blocks the end of an action with this status.
 fn holds(tables: &Tables, status: ActionStatus, row: Awaited) -> bool
     ensures { (J : History) → StandsFor tables.now.sheet J → result ≡ awaits.held status J row }
 {
@@ -113,7 +113,7 @@ fn holds(tables: &Tables, status: ActionStatus, row: Awaited) -> bool
     }
 }
 
-/// The ask of a member that is outstanding.
+/// Returns the outstanding ask of a member, if there is one.
 fn ask_of(tables: &Tables, member: u64) -> Option<u64>
     ensures { (J : History) → StandsFor tables.now.sheet J → result ≡ awaits.found_ask J member }
 {
@@ -123,7 +123,7 @@ fn ask_of(tables: &Tables, member: u64) -> Option<u64>
     }
 }
 
-/// The row of a member.
+/// Returns the row of a member.
 fn member_row(tables: &Tables, member: u64) -> Awaited
     ensures { (J : History) → StandsFor tables.now.sheet J → result ≡ awaits.member_row J member }
 {
@@ -133,7 +133,8 @@ fn member_row(tables: &Tables, member: u64) -> Awaited
     }
 }
 
-/// The row of an action at a place: its members come first, and then the actions nested directly in it.
+/// Returns the row of an action at a place, if there is one: its members come first, and then the actions nested
+/// directly in it.
 fn row_at(tables: &Tables, action: u64, place: u64) -> Option<Awaited>
     ensures { (J : History) → StandsFor tables.now.sheet J → result ≡ slice_get (awaits.found_rows J action) place }
 {
@@ -153,7 +154,7 @@ pub(crate) fn count_awaited(tables: &Tables, action: u64) -> u64
     (tables.members(action).len() + tables.children(action).len()) as u64
 }
 
-/// Returns what is told of the row at a place, if there is one that holds the end of an action with this status.
+/// Returns the answer about the row at a place, if there is one and it blocks the end of an action with this status.
 pub(crate) fn look_awaited(
     tables: &Tables,
     action: u64,

@@ -1,6 +1,6 @@
-//! The facts that are known of a history beside its tables.
+//! The facts of a history that its tables don't have: the want that is due and the action that is late.
 
-/// The facts that are known of a history beside its tables.
+/// The facts of a history that its tables don't have: the want that is due and the action that is late.
 #[derive(Clone, Copy, Debug, PartialEq, Eq)]
 pub struct Beside {
     /// The member whose want is due first at the moment of what is written; `next_ask` alone reads it.

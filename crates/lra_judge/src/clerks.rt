@@ -11,7 +11,7 @@ impl Judge<'_> {
     ghost use Rattle.lra_laws.specs.Sheets.{StandsFor};
     ghost use Rattle.lra_judge.specs.inner.Judged as judged;
 
-    /// The number of a new clerk.
+    /// Returns the number of a new clerk, unless there are as many as the limits allow.
     fn new_clerk(&self) -> Result<u32, Refusal>
         ensures { (J : History) → StandsFor self.now.tables.now.sheet J → result
             ≡ judged.new_clerk self.now.terms.limits J }
@@ -23,7 +23,7 @@ impl Judge<'_> {
         Ok(clerks as u32 + 1)
     }
 
-    /// The enrolment of a new clerk, whoever asks for it.
+    /// Decides on the enrolment of a new clerk; unlike every other command, it needs no enrolled clerk.
     pub(crate) fn enrol(&self) -> Result<Decision, Refusal>
         ensures { (J : History) → StandsFor self.now.tables.now.sheet J → result
             ≡ judged.enrol self.now.terms.limits J self.now.moment }

@@ -18,14 +18,14 @@ use lra_commands::{Command, Query, Refusal, Terms};
 use lra_tables::Tables;
 use std::alloc::Global;
 
-/// The moment of what is written: the one handed in, but never before the last entry.
+/// Returns the moment of what is written: the one handed in, but never before that of the last entry.
 fn moment_of(tables: &Tables, moment: u64) -> u64
     ensures { (J : History) → StandsFor tables.now.sheet J → result ≡ max moment (last_moment J) }
 {
     moment.max(tables.last_moment())
 }
 
-/// Decides a command, whatever is done to look at it.
+/// Decides on a command, by its kind.
 fn judge<E: Carries>(
     alloc: Global,
     judge: &Judge<'_>,
@@ -53,12 +53,12 @@ fn judge<E: Carries>(
     }
 }
 
-/// Decides a clerk's command at the history that the tables stand for: returns its refusal, what it is told where it
+/// Decides on a clerk's command at the history that the tables stand for: returns its refusal, its answer where it
 /// writes nothing, or the entry that it writes of its own. The moment, in milliseconds, is the one handed in; what is
 /// written has that of the last entry where this is later.
 ///
-/// That the entries don't fit isn't looked at, since what settles after the entry isn't known yet. Only a join takes
-/// memory, to read its addresses; `Memory` comes in no other place.
+/// It doesn't check that the entries fit, since what settles after the entry isn't known yet. Only a join takes memory,
+/// to read its addresses; `Memory` comes in no other place.
 pub fn decide<E: Carries>(
     alloc: Global,
     terms: &Terms,

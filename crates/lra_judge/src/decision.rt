@@ -6,7 +6,7 @@ use lra_model::Entry;
 /// The decision on a command that isn't refused.
 #[derive(Debug, Drop)]
 pub enum Decision {
-    /// It writes nothing, and this is what it is told.
+    /// It writes nothing, and this is its answer.
     Told(Told),
     /// It writes this entry, and all that settles after it.
     Write(Entry),

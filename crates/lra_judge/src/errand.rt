@@ -15,11 +15,11 @@ pub struct Carried {
     pub direction: Direction,
 }
 
-/// An errand: what a request to a member was carried by.
+/// An errand: the address and the contents of one ask.
 pub trait Carries {
     ghost asking: { Self → Asking };
 
-    /// The ask that it carries.
+    /// Returns the parts that decide whether its reply may come.
     fn carried(&self) -> Carried
         ensures { result ≡ carried_of (asking self.now) };
 }

@@ -1,4 +1,4 @@
-//! The values that each command is judged by.
+//! The values that each command is validated by.
 
 ghost use Rattle.std.specs.Prelude.{◌≡◌};
 ghost use Rattle.lra_judge.specs.inner.Judged as judged;
@@ -8,7 +8,8 @@ use lra_commands::{Refusal, Terms};
 use lra_model::{ActionStatus, Deed, Entry};
 use lra_tables::{ActionRow, MemberRow, Tables};
 
-/// A clerk's command is judged by these: the tables of the history before it, and the moment of what it writes.
+/// The values that a clerk's command is validated by: among them the tables of the history before it, and the moment of
+/// what it writes.
 #[derive(Clone, Copy, Drop)]
 pub(crate) struct Judge<'a> {
     pub(crate) terms: Terms,
@@ -23,7 +24,7 @@ impl Judge<'_> {
     ghost use Rattle.lra_laws.specs.Sheets.{StandsFor};
     ghost use Rattle.lra_judge.specs.inner.Judged as judged;
 
-    /// That the clerk is enrolled.
+    /// Checks that the clerk is enrolled.
     pub(crate) fn require_clerk(&self) -> Result<(), Refusal>
         ensures { (J : History) → StandsFor self.now.tables.now.sheet J → result ≡ judged.known_clerk J self.now.by }
     {
@@ -34,14 +35,14 @@ impl Judge<'_> {
         }
     }
 
-    /// The action, where it is there.
+    /// Returns the action of that number; `NoSuchAction` where it isn't there.
     pub(crate) fn action(&self, action: u64) -> Result<ActionRow, Refusal>
         ensures { (J : History) → StandsFor self.now.tables.now.sheet J → result ≡ judged.known_action J action }
     {
         self.tables.action(action).ok_or(Refusal::NoSuchAction)
     }
 
-    /// The action, where it is there and Active.
+    /// Returns the action of that number, which has to be there and Active.
     pub(crate) fn open_action(&self, action: u64) -> Result<ActionRow, Refusal>
         ensures { (J : History) → StandsFor self.now.tables.now.sheet J → result ≡ judged.open_action J action }
     {
@@ -50,14 +51,14 @@ impl Judge<'_> {
         Ok(row)
     }
 
-    /// The member, where it is there.
+    /// Returns the member of that number; `NoSuchMember` where it isn't there.
     pub(crate) fn member(&self, member: u64) -> Result<MemberRow, Refusal>
         ensures { (J : History) → StandsFor self.now.tables.now.sheet J → result ≡ judged.known_member J member }
     {
         self.tables.member(member).ok_or(Refusal::NoSuchMember)
     }
 
-    /// That a limit's end, counted from the moment of what is written, is a moment.
+    /// Checks that a limit's end, counted from the moment of what is written, is a moment.
     pub(crate) fn require_near(&self, limit: u64) -> Result<(), Refusal>
         ensures { result ≡ judged.near self.now.moment limit }
     {
@@ -68,7 +69,7 @@ impl Judge<'_> {
         }
     }
 
-    /// That the clerk writes a deed.
+    /// Returns the decision that the clerk writes a deed.
     pub(crate) fn write(&self, deed: Deed) -> Decision
         ensures { result ≡ judged.written self.now.by self.now.moment deed }
     {
@@ -80,7 +81,7 @@ impl Judge<'_> {
     }
 }
 
-/// That an action is Active.
+/// Checks that the status of an action is Active.
 pub(crate) fn require_open(status: ActionStatus) -> Result<(), Refusal>
     ensures { result ≡ judged.still_open status }
 {

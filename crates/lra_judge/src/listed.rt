@@ -9,7 +9,7 @@ ghost use Rattle.lra_judge.specs.inner.Listed as listed;
 use lra_commands::{Known, Limits, Listing, Row, Want};
 use lra_tables::{MemberRow, Tables};
 
-/// Returns what a member is to be asked next.
+/// Returns what a member wants to be asked next, with its repeats so far and the moment when it is due.
 fn want_in(limits: &Limits, found: &MemberRow) -> Option<Want>
     ensures { result ≡ listed.want_in limits.now found.now }
 {
@@ -23,7 +23,7 @@ fn want_in(limits: &Limits, found: &MemberRow) -> Option<Want>
     }
 }
 
-/// The row of a member, if it is there.
+/// Returns the row of a member, if it is there.
 fn member_row(limits: &Limits, tables: &Tables, member: u64) -> Option<Row>
     ensures { (J : History) → StandsFor tables.now.sheet J → result ≡ listed.member_found limits.now J member }
 {
@@ -36,7 +36,7 @@ fn member_row(limits: &Limits, tables: &Tables, member: u64) -> Option<Row>
     })
 }
 
-/// The row of an action, if it is there.
+/// Returns the row of an action, if it is there.
 fn action_row(tables: &Tables, action: u64) -> Option<Row>
     ensures { (J : History) → StandsFor tables.now.sheet J → result ≡ listed.action_found J action }
 {
@@ -59,7 +59,7 @@ pub(crate) fn count_listed(tables: &Tables, listing: Listing) -> u64
     }
 }
 
-/// The row at a place: of all actions, that of the number after it.
+/// Returns the row at a place, if there is one: of all actions, that of the number after it.
 fn row_at(limits: &Limits, tables: &Tables, listing: Listing, place: u64) -> Option<Row>
     requires { place < 2 ^ 64 - 1 }
     ensures { (J : History) → StandsFor tables.now.sheet J → result ≡ listed.row_at limits.now J listing place }
@@ -92,7 +92,7 @@ fn belongs(listing: Listing, row: Row) -> bool
     }
 }
 
-/// Returns what is told of the row at a place, if there is one that belongs to the listing.
+/// Returns the answer about the row at a place, if there is one and it belongs to the listing.
 pub(crate) fn look_listed(
     limits: &Limits,
     tables: &Tables,

@@ -12,7 +12,7 @@ use lra_model::{Deed, Ending, MemberStatus, Outcome, Uris};
 use lra_tables::MemberRow;
 use std::alloc::Global;
 
-/// That a member hasn't left.
+/// Checks that a member hasn't left.
 fn require_here(status: MemberStatus) -> Result<(), Refusal>
     ensures { result ≡ judged.here status }
 {
@@ -33,7 +33,7 @@ fn has_told(found: &MemberRow, ending: Ending) -> bool
     }
 }
 
-/// Returns whether a member is being asked for what it tells.
+/// Returns whether a member is being asked for the ending that it reports.
 fn is_awaited(status: MemberStatus, ending: Ending) -> bool
     ensures { result ≡ judged.is_awaited status ending }
 {
@@ -43,7 +43,7 @@ fn is_awaited(status: MemberStatus, ending: Ending) -> bool
     }
 }
 
-/// The outcome that an ending is.
+/// Returns the outcome that an ending stands for.
 fn outcome_told(ending: Ending) -> Outcome
     ensures { result ≡ outcome_told ending }
 {
@@ -59,7 +59,7 @@ impl Judge<'_> {
     ghost use Rattle.lra_laws.specs.Sheets.{StandsFor};
     ghost use Rattle.lra_judge.specs.inner.Judged as judged;
 
-    /// The number of a new member.
+    /// Returns the number of a new member, unless there are as many as the limits allow.
     fn new_member(&self) -> Result<u64, Refusal>
         ensures { (J : History) → StandsFor self.now.tables.now.sheet J → result
             ≡ judged.new_member self.now.terms.limits J }
@@ -71,7 +71,7 @@ impl Judge<'_> {
         Ok(members + 1)
     }
 
-    /// A join of an action that is Active, with addresses as they are stored.
+    /// Decides on a join of an action that is Active, with addresses as they are stored.
     fn join_with(&self, action: u64, uris: Uris) -> Result<Decision, Refusal>
         ensures { (J : History) → StandsFor self.now.tables.now.sheet J → result
             ≡ judged.join_with self.now.terms.limits J self.now.by self.now.moment action uris }
@@ -87,7 +87,7 @@ impl Judge<'_> {
         }))
     }
 
-    /// That the clerk may let members join an action.
+    /// Checks that the clerk is enrolled, and that the action is Active, so that members may join it.
     fn require_joinable(&self, action: u64) -> Result<(), Refusal>
         ensures { (J : History) → StandsFor self.now.tables.now.sheet J → result
             ≡ judged.joinable J self.now.by action }
@@ -97,7 +97,7 @@ impl Judge<'_> {
         Ok(())
     }
 
-    /// A join of an action that is Active, once the addresses are read.
+    /// Decides on a join of an action that is Active, by the result of reading the addresses.
     fn join_read(&self, action: u64, read: Result<Uris, Refusal>) -> Result<Decision, Refusal>
         ensures { (J : History) → StandsFor self.now.tables.now.sheet J → result
             ≡ judged.join_read self.now.terms.limits J self.now.by self.now.moment action read }
@@ -105,7 +105,8 @@ impl Judge<'_> {
         self.join_with(action, read?)
     }
 
-    /// The join of a member: a repeat where one with the same addresses has joined. Reading the addresses takes memory.
+    /// Decides on the join of a member: it is a repeat where one with the same addresses has joined and hasn't left.
+    /// Reading the addresses takes memory.
     pub(crate) fn join(&self, alloc: Global, action: u64, uris: &Uris) -> Result<Decision, Refusal>
         ensures { (J : History) → StandsFor self.now.tables.now.sheet J
             → judged.IsJoin self.now.terms.limits J self.now.by self.now.moment action uris.now result
@@ -117,7 +118,7 @@ impl Judge<'_> {
         self.join_read(action, stored(alloc, uris))
     }
 
-    /// The leave of a member.
+    /// Decides on the leave of a member.
     pub(crate) fn leave(&self, action: u64, member: u64) -> Result<Decision, Refusal>
         ensures { (J : History) → StandsFor self.now.tables.now.sheet J → result
             ≡ judged.leave J self.now.by self.now.moment action member }
@@ -159,7 +160,7 @@ impl Judge<'_> {
     }
 }
 
-/// That a member is the action's.
+/// Checks that a member is the action's.
 fn require_own(of: u64, action: u64) -> Result<(), Refusal>
     ensures { result ≡ judged.own of action }
 {

@@ -16,7 +16,7 @@ use crate::walk::{Walk, count_from, tell_from};
 use lra_commands::{Known, Limits, Listing, Query, Refusal};
 use lra_tables::Tables;
 
-/// The status of an action.
+/// Returns the status of an action.
 fn action_is(tables: &Tables, action: u64) -> Result<Known, Refusal>
     ensures { (J : History) → StandsFor tables.now.sheet J → result ≡ known_where (is_among (actions J) action)
         (known.ActionIs (status_at J action)) refusal.NoSuchAction }
@@ -27,7 +27,7 @@ fn action_is(tables: &Tables, action: u64) -> Result<Known, Refusal>
     }
 }
 
-/// The status of a member.
+/// Returns the status of a member.
 fn member_is(tables: &Tables, member: u64) -> Result<Known, Refusal>
     ensures { (J : History) → StandsFor tables.now.sheet J → result ≡ known_where (is_among (members J) member)
         (known.MemberIs (member_status J member)) refusal.NoSuchMember }
@@ -67,7 +67,7 @@ fn is_there(tables: &Tables, action: u64) -> bool
     }
 }
 
-/// Returns whether what a listing is of is there.
+/// Returns whether the action that a listing is of is there; true of the listing of all actions.
 fn is_listed(tables: &Tables, listing: Listing) -> bool
     ensures { (J : History) → StandsFor tables.now.sheet J → result ≡ is_listed J listing }
 {
@@ -78,7 +78,7 @@ fn is_listed(tables: &Tables, listing: Listing) -> bool
     }
 }
 
-/// The next row of a listing, from a place on.
+/// Returns the next row of a listing, from a place on.
 fn next_row(
     limits: &Limits,
     tables: &Tables,
@@ -112,7 +112,7 @@ fn count_rows(
     }
 }
 
-/// Returns what a query is told at the history that the tables stand for, where members are asked again by these
+/// Returns the answer to a query at the history that the tables stand for, where members are asked again by these
 /// limits. This takes no memory.
 pub fn tell(limits: &Limits, tables: &Tables, query: Query) -> Result<Known, Refusal>
     ensures { (J : History) → StandsFor tables.now.sheet J → result ≡ tell limits.now J query }
@@ -132,7 +132,7 @@ impl Judge<'_> {
     ghost use Rattle.lra_laws.specs.Sheets.{StandsFor};
     ghost use Rattle.lra_judge.specs.inner.Judged as judged;
 
-    /// Returns what a command is told that only asks.
+    /// Decides on a command that only asks: returns the answer to its query.
     pub(crate) fn ask(&self, query: Query) -> Result<Decision, Refusal>
         ensures { (J : History) → StandsFor self.now.tables.now.sheet J → result
             ≡ judged.ask self.now.terms.limits J self.now.by query }

@@ -25,8 +25,8 @@ use lra_ids::{UriFault, address};
 use lra_model::Uris;
 use std::alloc::Global;
 
-/// The text of the address that a text stands for. It is `BadAddresses` where there is none, and `Memory` where a
-/// growth was refused.
+/// Returns the text of the address that a text stands for. It is `BadAddresses` where there is none, and `Memory` where
+/// memory was refused.
 fn stored_text(alloc: Global, text: &str) -> Result<String, Refusal>
     ensures ok { IfOk result (λ own. address_of text.now ≡ Ok (string_bytes own)) }
     ensures err { IfErr result (λ r. r ≢ Refusal.Memory → (r ≡ Refusal.BadAddresses) × (reads text.now ≡ false)) }
@@ -40,7 +40,7 @@ fn stored_text(alloc: Global, text: &str) -> Result<String, Refusal>
     }
 }
 
-/// The same of a text that may be there.
+/// Returns the text of the address that a text stands for, where there is a text; `None` where there is none.
 fn stored_address(alloc: Global, text: &Option<String>) -> Result<Option<String>, Refusal>
     ensures ok { IfOk result (λ own. (text_of own ≡ option_map stored (text_of text.now))
         × (is_readable (text_of text.now) ≡ true)) }
@@ -64,7 +64,7 @@ fn has_enough(uris: &Uris) -> bool
             && uris.forget.is_none())
 }
 
-/// The addresses of a member, as they are stored. They are `BadAddresses` where they don't fit.
+/// Returns the addresses of a member, as they are stored. They are `BadAddresses` where they don't fit.
 pub(crate) fn stored(alloc: Global, uris: &Uris) -> Result<Uris, Refusal>
     ensures { IsReading uris.now result }
 {

@@ -1,4 +1,4 @@
-//! The rows that a query goes along, one by one, and the first of them that it tells.
+//! The rows that a query goes along, one by one, and the first of them that it returns.
 
 ghost use Rattle.std.specs.Prelude.{◌≡◌, ◌≤◌, ◌<◌, ◌+◌, ◌-◌, ◌^◌, min, max, unwrap_or, cond, filter, length};
 ghost use Rattle.lra_model.specs.History.{History};
@@ -19,7 +19,7 @@ const MOST_ROWS: u64 = 256;
 /// The rows that a query goes along.
 #[derive(Clone, Copy)]
 pub(crate) enum Walk {
-    /// The rows of an action with this status, for what holds its end.
+    /// The rows of an action with this status, for those that block its end.
     Awaited { action: u64, status: ActionStatus },
     /// The rows of a listing.
     Listed { listing: Listing },
@@ -35,7 +35,7 @@ fn count_rows(tables: &Tables, walk: Walk) -> u64
     }
 }
 
-/// Returns what is told of the row at a place, if there is one that is told.
+/// Returns the answer about the row at a place, if there is one that the query returns.
 fn look(limits: &Limits, tables: &Tables, walk: Walk, place: u64) -> Option<Known>
     requires { place < 2 ^ 64 - 1 }
     ensures { (J : History) → StandsFor tables.now.sheet J → result ≡ walks.look limits.now J walk place }
@@ -46,7 +46,7 @@ fn look(limits: &Limits, tables: &Tables, walk: Walk, place: u64) -> Option<Know
     }
 }
 
-/// Returns how many rows are looked at from a place on, of so many.
+/// Returns how many of so many rows one query looks at, from a place on.
 fn count_looked(rows: u64, place: u64) -> u64
     ensures most { result ≤ most_rows }
     ensures within { place + result ≤ max place rows }
@@ -59,7 +59,7 @@ fn count_looked(rows: u64, place: u64) -> u64
     }
 }
 
-/// Returns what is told of the first of the rows looked at that is told.
+/// Returns the answer about the first of the rows looked at that the query returns, if there is one.
 fn first_told(limits: &Limits, tables: &Tables, walk: Walk, place: u64) -> Option<Known>
     ensures { (J : History) (none : Told) → StandsFor tables.now.sheet J → unwrap_or result none
         ≡ walks.first_some (walks.look limits.now J walk) none place most_rows }
@@ -74,7 +74,7 @@ fn first_told(limits: &Limits, tables: &Tables, walk: Walk, place: u64) -> Optio
     None
 }
 
-/// Returns what is told where no row from any place on is.
+/// Returns the answer where the query returns no row from any place on.
 fn last_of(walk: Walk) -> Known
     ensures { result ≡ walks.last_of walk }
 {
@@ -84,7 +84,7 @@ fn last_of(walk: Walk) -> Known
     }
 }
 
-/// Where to go on from a place, of so many rows, unless all of them were looked at.
+/// Returns where to go on from a place, of so many rows, unless all of them were looked at.
 fn next_of(rows: u64, place: u64) -> Option<u64>
     ensures { result ≡ next_of rows place }
 {
@@ -94,7 +94,7 @@ fn next_of(rows: u64, place: u64) -> Option<u64>
     }
 }
 
-/// Returns what is told where none of the rows looked at is, of so many.
+/// Returns the answer where the query returns none of the rows looked at, of so many.
 fn none_told(last: Known, rows: u64, place: u64) -> Known
     ensures { result ≡ walks.none_told last rows place }
 {
@@ -104,7 +104,7 @@ fn none_told(last: Known, rows: u64, place: u64) -> Known
     }
 }
 
-/// Returns what is told from a place on.
+/// Returns the answer to a query from a place on.
 pub(crate) fn tell_from(limits: &Limits, tables: &Tables, walk: Walk, place: u64) -> Known
     ensures { (J : History) → StandsFor tables.now.sheet J → walks.IsTold limits.now J walk place result }
 {
@@ -112,7 +112,7 @@ pub(crate) fn tell_from(limits: &Limits, tables: &Tables, walk: Walk, place: u64
     first_told(limits, tables, walk, place).unwrap_or(none)
 }
 
-/// 1 where something is so, and else 0.
+/// Returns 1 where something is so, and else 0.
 fn one_if(is_so: bool) -> u64
     ensures count { result ≡ cond is_so 1 0 }
     ensures most { result ≤ 1 }

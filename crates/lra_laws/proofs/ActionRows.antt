@@ -83,7 +83,7 @@ nested_still v t J by m d l k none no_turn test a =
     (status_kept J by m d c (no_turn c) i) false)
     ∙ sym (children_count v t J l test a)
 
--- ---- an entry that turns no action and concerns no member
+-- ---- an entry that changes no action's status and concerns no member
 
 pub still_row : (v : Version) (t : List ℕ → Bool) (J : History) (by m : ℕ) (d : Deed) → is_legal v t J ≡ true
     → Allowed v t J (entry by m d) → joined_by d ≡ None → started_by d ≡ None → ((p : ℕ) → concerns J d p ≡ false)
@@ -291,7 +291,7 @@ actions_joined v t J by m p c u l k number there =
     (λ q h x. joined_to_row v t J by m p c u l k number q h false x)
     (joined_to_row v t J by m p c u l k number c there true (eqb_self c))
 
--- ---- an entry that turns an action
+-- ---- an entry that changes an action's status
 
 -- each action has a status
 has_status : (v : Version) (t : List ℕ → Bool) (J : History) → is_legal v t J ≡ true → (a : ℕ) → is_among (actions J) a

@@ -1,4 +1,4 @@
--- The asks of a legal history: whom they were made of, and which of them stand.
+-- The asks of a legal history: the members that they were made of, and which of them are unanswered.
 use Rattle.std.proofs.Common.{◌≡◌, ℕ, ◌+◌, ◌<◌, ◌≤◌, Bool, true, false, List, [], ◌∷◌, ◌++◌, length, Option, Some, None}
 use Rattle.std.proofs.Common.{refl, sym, ap, ◌∙◌, cond, arith, eqb-true, append-nil, length-append, subst, eq-eqb, inl}
 use Rattle.std.proofs.Common.{inr, ◌⊎◌}

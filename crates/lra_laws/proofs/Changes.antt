@@ -256,7 +256,7 @@ asked_kept v t J by m d p l k h = by_deed d h k
     by_deed Restart h k = none_asked v t J by m p l k ∙ sym (unasked v t J p l h)
     by_deed d h k = still d h k refl
 
--- no one's answer to a void ask is awaited
+-- no void ask is outstanding
 pub void_unasked : (v : Version) (t : List ℕ → Bool) (J : History) (n : ℕ) → is_legal v t J ≡ true → n ≤ void_asks J
     → member_awaited J n ≡ None
 void_unasked v t J n l h = of_ask (ask_of J n) refl
@@ -269,7 +269,7 @@ void_unasked v t J n l h = of_ask (ask_of J n) refl
         ((asks_stand v t J l).outstanding n ∙ ap (stands_yet J n) e ∙ ap
         (λ (b : Bool). b && stands_for (standing J x.member) n) (le-ltb (void_asks J) n h))
 
--- ---- actions that it turns
+-- ---- actions whose status it changes
 
 -- the members of an outermost action and of all below it
 pub under_lem : (J : History) (c p : ℕ) → is_among (members_under J c) p
@@ -316,7 +316,7 @@ unturned v t J by m d p l k g h = by_deed d h (started_number v t J by m d k)
     by_deed (End c s) n new = ap (λ (b : Bool). when b s) (ends c (parent J c) refl n)
     by_deed _ n new = refl
 
--- the outermost action above a member isn't turned, or has ended neither before nor after
+-- the status of the outermost action above a member doesn't change, or it has ended neither before nor after
 Unended : History → Deed → ℕ → Type 0
 Unended J d t = (status_given t d ≡ None) ⊎ ((option_map_or has_ended (status_given t d) false ≡ false)
     × (action_is has_ended J t ≡ false))
@@ -345,7 +345,7 @@ unended v t J by m d p l k g h = by_deed d h (started_number v t J by m d k)
     alone : parent J outer ≡ None
     alone = top_is_outermost v t J l (action_of J p)
 
-    -- an action that an entry turns where it was Active
+    -- an action whose status an entry changes from Active
     from_active : (c : ℕ) (now : ActionStatus) (b : Bool) → (c == outer) ≡ b → has_ended now ≡ false
         → ((c == outer) ≡ true → action_is is_active J outer ≡ true)
         → (when (c == outer) now ≡ None) ⊎ ((option_map_or has_ended (when (c == outer) now) false ≡ false)

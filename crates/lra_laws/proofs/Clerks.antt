@@ -17,7 +17,7 @@ clerk_there : (J : History) (e : Entry) (n : ℕ) → is_among (clerks (J ++ e �
     ≡ (is_among (clerks J) n || option_map_or (λ m. m == n) (enrolled_by e) false)
 clerk_there J e n = ap (λ (ns : List ℕ). is_among ns n) (clerks_push J e) ∙ among_push (clerks J) (enrolled_by e) n
 
--- who isn't a clerk has written nothing
+-- no entry is by a number that is no clerk's
 pub none_by : (v : Version) (t : List ℕ → Bool) (J : History) → is_legal v t J ≡ true → (n : ℕ) → is_among (clerks J) n
     ≡ false → filter (λ (e : Entry). e.by == n) J ≡ []
 none_by v t = legal_induction v t (λ J. (n : ℕ) → is_among (clerks J) n ≡ false → filter (λ (e : Entry). e.by == n) J

@@ -157,7 +157,7 @@ repeats_answered J by m n o x stage b asked e =
     either true = counted_more (repeats J x.member stage) m
     either false = ap counted (append-nil (repeats J x.member stage))
 
--- a contact, where each stage may get one more
+-- a member's endpoint, where each stage may get one more repeat
 abbrev stages_after : (ℕ) → (AskKind → Bool) → Contact → Contact
 stages_after m more c = record {
   addresses = c.addresses;

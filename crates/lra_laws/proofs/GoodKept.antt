@@ -35,7 +35,7 @@ cancelled_has_ended _ h = absurd cc
 
 -- ---- what an end is read from
 
--- a deed starts, joins, leaves, asks and turns nothing that the end of an action is read from
+-- a deed starts, joins, leaves and asks nothing that the end of an action is read from, and changes no such status
 pub record Spares (J : History) (d : Deed) (a : ℕ) : Type 0 where
   pub no_child : child_given a d ≡ None
   pub no_member : member_given a d ≡ None

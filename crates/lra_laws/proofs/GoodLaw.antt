@@ -73,7 +73,7 @@ cancelled_after v t J l by m d k a ih = by_deed d k
     same : (was_cancelled J a || false) ≡ option_map_or cancels (action_status J a) false
     same = or-false (was_cancelled J a) ∙ ih
 
-    -- a turn that is no cancellation, of an action that wasn't cancelled
+    -- a change of status that is no cancellation, of an action that wasn't cancelled
     turned : (x : ActionStatus) → cancels x ≡ false → (b : Bool) → (b ≡ true → action_is cancels J a ≡ false)
         → (was_cancelled J a || false) ≡ option_map_or cancels (option_or (when b x) (action_status J a)) false
     turned x h true g = or-false (was_cancelled J a) ∙ ih ∙ g refl ∙ sym h

@@ -266,7 +266,7 @@ ends_stand_push v t J l by m d k ih a s h ended = by_deed d k h
         (untouched v t J l (record { by = by; moment = m; deed = d }) a spares
         (settles_decided J a (before_end s) old.settled)) old
 
-    -- a turn that is no end
+    -- a change of status that is no end
     turned : (b : Bool) (x : ActionStatus) (d : Deed) → Allowed v t J (record { by = by; moment = m; deed = d })
         → has_ended x ≡ false → option_or (when b x) (action_status J a) ≡ Some s
         → EndsAgain (J ++ record { by = by; moment = m; deed = d } ∷ []) a s

@@ -212,7 +212,7 @@ unfolding steps clerks actions members asks last_moment parent top is_under acti
     is_legal was_cancelled_below
 kept_member = (good_ends One is_http kept refl 1).closed refl 1 (refl, refl, refl) refl
 
--- at a closed action whose nested one its client took back, in version 2
+-- at a closed action whose nested one its client cancelled after its close, in version 2
 pub taken_back_member : member_status taken_back 1 ≡ member.Compensated
 unfolding steps clerks actions members asks last_moment parent top is_under action_status limit_in_force children
     members_of was_cancelled action_of addresses_of has_left stays was_asked ask_of replies decided member_status

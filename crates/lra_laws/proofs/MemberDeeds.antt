@@ -33,7 +33,7 @@ use Rattle.lra_laws.proofs.MemberWords.{reply_after, answer_after, answer_kept, 
 use Rattle.lra_laws.proofs.MemberWords.{answered_of}
 use Rattle.lra_laws.proofs.StatusCases.{asked_to_complete, asked_to_compensate, skipped, goes_on, decided_anew}
 
--- a member's status after an entry, by what bears on it
+-- a member's status after an entry, by what it depends on
 pub status_after : (J : History) (by m : ℕ) (d : Deed) (p : ℕ) (l gc gd : Bool) (c e : Option Outcome)
     → has_left (more J by m d) p ≡ l → decided (more J by m d) p direction.Compensation ≡ c
     → was_asked (more J by m d) p ask.Compensate ≡ gc
@@ -47,13 +47,13 @@ pub decided_after : (J : History) (by m : ℕ) (d : Deed) (p : ℕ) (way : Direc
     ≡ option_or (decided J p way) o
 decided_after J by m d p way o h = decided_push J (entry by m d) p way ∙ ap (option_or (decided J p way)) h
 
--- what was heard of the member itself
+-- what the entry says of the member itself
 heard_self : (p : ℕ) (way : Direction) (x : Heard) → (x.member == p) ≡ true → when (decides p way x) x.outcome
     ≡ word_of x.direction way x.outcome
 heard_self p way x h = ap (λ (b : Bool). when (b && same_direction x.direction way && is_decisive x.outcome) x.outcome)
     h
 
--- what has decided a direction, after one more word
+-- what has decided a direction, after one more outcome
 word_decides : (J : History) (by m : ℕ) (d : Deed) (p : ℕ) (to way : Direction) (o : Outcome)
     → heard_of p to (heard_at (step J (entry by m d))) ≡ word_of way to o
     → decided (more J by m d) p to ≡ decided_by to way o (decided J p to)
@@ -263,7 +263,7 @@ ask_status J by m n p kind h = of_kind kind h (anew kind)
     of_kind ask.Forget h e = e ∙ same
     of_kind ask.After h e = e ∙ same
 
--- what an ask leaves standing
+-- what is left unanswered after an ask
 pub stand_asked : (J : History) (by m n p : ℕ) (kind : AskKind) → standing (more J by m (Ask n p kind)) p
     ≡ Some (record { number = n; kind = kind; direction = ask_direction J p kind })
 stand_asked J by m n p kind = stand_after J by m (Ask n p kind) p (Some
@@ -354,7 +354,7 @@ replied_row direction.Neither kind n o r c d h k = λ i. record r {
       || (same_kind kind ask.After && is_done o);
 }
 
--- what a reply leaves standing with the member that was asked
+-- what is left unanswered of the member that was asked, after a reply
 pub stand_replied : (J : History) (by m n : ℕ) (o : Outcome) (x : Asked) → ask_of J n ≡ Some x
     → standing (more J by m (Reply n o)) x.member ≡ None
 stand_replied J by m n o x h = stand_after J by m (Reply n o) x.member (Some None)

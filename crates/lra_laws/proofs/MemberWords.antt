@@ -56,7 +56,7 @@ pub record SameWords (J K : History) (p : ℕ) : Type 0 where
   pub standing : standing K p ≡ standing J p
   pub answered : (kind : AskKind) → was_answered K p kind ≡ was_answered J p kind
 
--- the status of a member, by what bears on it
+-- the status of a member, by what it depends on
 pub status_is : (J : History) (p : ℕ) → member_status J p ≡ status_by (has_left J p)
     (decided J p direction.Compensation) (was_asked J p ask.Compensate) (decided J p direction.Completion)
     (was_asked J p ask.Complete)

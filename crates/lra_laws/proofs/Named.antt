@@ -539,7 +539,7 @@ member_named_there v t p test named = legal_induction v t (λ J. list_any (λ (e
         either true g i = g refl
         either false g i = members_named_there v t J e.by e.moment e.deed k p (named e.deed i)
 
--- who was asked, or has left, is there
+-- a member that was asked, or has left, is there
 pub was_asked_there : (v : Version) (t : List ℕ → Bool) (J : History) → is_legal v t J ≡ true → (p : ℕ) (kind : AskKind)
     → was_asked J p kind ≡ true → is_among (members J) p ≡ true
 unfolding was_asked

@@ -109,7 +109,7 @@ clerk_there_push J e n h =
     ap (λ (ns : List ℕ). is_among ns n) (clerks_push J e) ∙ among_push (clerks J) (enrolled_by e) n
     ∙ ap (λ (b : Bool). b || option_map_or (λ m. m == n) (enrolled_by e) false) h
 
--- who writes an entry is there after it
+-- the clerk that writes an entry is there after it
 pub writer_there : (v : Version) (t : List ℕ → Bool) (J : History) (by m : ℕ) (d : Deed)
     → Allowed v t J (record { by = by; moment = m; deed = d }) → is_among
     (clerks (J ++ record { by = by; moment = m; deed = d } ∷ [])) by ≡ true

@@ -40,7 +40,7 @@ use Rattle.lra_laws.proofs.Settled.{settling_allowed}
 
 -- ---- how much may be left to settle
 
--- how many turns an action has left: to Closing, its end, Cancelling and its end
+-- how many changes of its status an action has left: to Closing, its end, Cancelling and its end
 abbrev turns_left : ActionStatus → ℕ
 turns_left action.Active = 4
 turns_left action.Closing = 3
@@ -56,7 +56,7 @@ turns_of J a = turns_left (unwrap_or (action_status J a) action.Active)
 abbrev skips_of : History → ℕ → ℕ
 skips_of J p = cond (is_some (decided J p direction.Completion)) 0 1
 
--- the skips and the turns that are left
+-- the skips and the changes of status that are left
 abbrev pub left_to_settle : History → ℕ
 left_to_settle J = sum_by (skips_of J) (members J) + sum_by (turns_of J) (actions J)
 
@@ -172,12 +172,12 @@ skip_taken J by m p h =
     e : Entry
     e = record { by = by; moment = m; deed = Skip p }
 
--- the turns that an action has left after an entry
+-- the changes of its status that an action has left after an entry
 turns_after : (J : History) (e : Entry) (a : ℕ) → turns_of (J ++ e ∷ []) a
     ≡ turns_left (unwrap_or (option_or (status_given a e.deed) (action_status J a)) action.Active)
 turns_after J e a = ap (λ (o : Option ActionStatus). turns_left (unwrap_or o action.Active)) (action_status_push J e a)
 
--- an entry turns an action to a status that leaves it less
+-- an entry changes an action's status to one that leaves it fewer changes
 record IsTurn (J : History) (d : Deed) (b : ℕ) (s : ActionStatus) : Type 0 where
   pub there : is_among (actions J) b ≡ true
   pub turns : (a : ℕ) → status_given a d ≡ when (b == a) s
@@ -209,7 +209,7 @@ module _ (J : History) (by m : ℕ) (d : Deed) (b : ℕ) (s : ActionStatus) (tur
 
 -- ---- settling
 
--- who are there stays, where an entry starts and joins nothing
+-- which numbers are there stays, where an entry starts and joins nothing
 left_after : (J : History) (e : Entry) → started_by e.deed ≡ None → joined_by e.deed ≡ None
     → left_to_settle (J ++ e ∷ []) ≡ sum_by (skips_of (J ++ e ∷ [])) (members J)
     + sum_by (turns_of (J ++ e ∷ [])) (actions J)

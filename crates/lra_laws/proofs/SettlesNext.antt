@@ -1,5 +1,5 @@
--- What settles next is found by the least member that may be skipped, the least action that is turned, and the greatest
--- that may end.
+-- What settles next is found by the least member that may be skipped, the least action that its parent closes or
+-- cancels, and the greatest that may end.
 use Rattle.std.proofs.Common.{◌≡◌, ℕ, zero, suc, ◌+◌, ◌≤◌, ◌<◌, Bool, true, false, List, [], ◌∷◌, length, Option, Some}
 use Rattle.std.proofs.Common.{None, inl, inr, refl, sym, ap, ◌∙◌, cond, arith}
 use Rattle.std.proofs.lemmas.Bool.{cases_eq}

@@ -1,4 +1,4 @@
--- The sheet of a history after one more entry that is allowed.
+-- The snapshot of a history after one more entry that is allowed.
 use Rattle.std.proofs.Common.{◌≡◌, ℕ, Bool, true, List, [], ◌∷◌, ◌++◌, map, Option, refl, sym, ap, ◌∙◌, length-append}
 use Rattle.std.specs.Option.{option_map_or}
 use Rattle.lra_model.specs.declared.entry.Deed.{Deed}
@@ -54,7 +54,7 @@ push_allowed v t J by m d l k x = λ i. record {
   asks = asks_push_by v t J by m d l x i;
 }
 
--- the sheet of a legal history, after an entry that is allowed
+-- the snapshot of a legal history, after an entry that is allowed
 pub sheet_push : (v : Version) (t : List ℕ → Bool) (J : History) (e : Entry) → is_legal v t J ≡ true → allows v t J e
     ≡ true → sheet_of (J ++ e ∷ []) ≡ sheet_after e (sheet_of J)
 sheet_push v t J e l k = let a = allowed v t J e k in

@@ -163,7 +163,7 @@ compensating_begun = state_told is_compensating true
       active = λ i. absurd cc;
     })
 
--- ---- who has answered in completion was asked
+-- ---- a member that has answered in completion was asked
 
 begun_push : (J : History) (e : Entry) (p : ℕ) → was_begun J p ≡ true → was_begun (J ++ e ∷ []) p ≡ true
 begun_push J e p h =
@@ -239,7 +239,7 @@ asked_now v t J by m _ allow n x h g = absurd cc
 abbrev AskedBegun : History → Type 0
 AskedBegun J = (n : ℕ) (x : Asked) → ask_of J n ≡ Some x → ToCompletion x → was_begun J x.member ≡ true
 
--- who is asked in completion was asked to complete or to compensate
+-- a member that is asked in completion was asked to complete or to compensate
 asked_begun : (v : Version) (t : List ℕ → Bool) (J : History) → is_legal v t J ≡ true → AskedBegun J
 unfolding ask_of steps
 asked_begun v t = legal_induction v t AskedBegun (λ n x h g. absurd cc) push
@@ -256,7 +256,7 @@ asked_begun v t = legal_induction v t AskedBegun (λ n x h g. absurd cc) push
 abbrev RepliedBegun : History → Type 0
 RepliedBegun J = (p : ℕ) → is_some (last_reply J p direction.Completion) ≡ true → was_begun J p ≡ true
 
--- who has replied in completion was asked to complete or to compensate
+-- a member that has replied in completion was asked to complete or to compensate
 replied_begun : (v : Version) (t : List ℕ → Bool) (J : History) → is_legal v t J ≡ true → RepliedBegun J
 unfolding last_reply replies steps
 replied_begun v t = legal_induction v t RepliedBegun (λ p h. absurd cc) push

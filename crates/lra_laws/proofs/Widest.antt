@@ -1,5 +1,5 @@
 -- What is legal or allowed in some version, with some test of an address's text, is so in version 2 with every text for
--- an address; and what is allowed after one of the histories that a sheet stands for is allowed so after each.
+-- an address; and what is allowed after one of the histories that a snapshot stands for is allowed so after each.
 use Rattle.std.proofs.Common.{◌≡◌, ℕ, Bool, true, false, List, Option, Some, None, refl, sym, ap, ◌∙◌, subst}
 use Rattle.std.specs.Prelude.{◌&&◌, ◌||◌, is_some, is_none}
 use Rattle.std.specs.Option.{option_map_or}
@@ -81,7 +81,7 @@ unfolding is_legal
 legal_widest v t J h = list_all-weaker (λ (s : Step). allows v t s.past s.entry)
     (λ (s : Step). allows Two any_text s.past s.entry) (λ s. allows_widest v t s.past s.entry) (steps J) h
 
--- two histories that one sheet stands for have the same facts
+-- two histories that one snapshot stands for have the same facts
 pub same_facts : (s : Sheet) (J K : History) → StandsFor s J → StandsFor s K → facts_of K ≡ facts_of J
 same_facts s J K h k =
     sym (agree k.version k.is_address K k.legal)

@@ -90,7 +90,7 @@ left_alone = at 0 Enrol ∷ at 0 (Start 1 None 0) ∷ at 1 (Join 1 1 (uris u c N
 abbrev pub nest : History
 nest = at 0 Enrol ∷ at 0 (Start 1 None 0) ∷ at 1 (Start 2 (Some 1) 0) ∷ at 2 (Join 1 2 (uris u c None f a)) ∷ []
 
--- the nested action closes, then the outer one is cancelled, and the member hears of its end
+-- the nested action closes, then the outer one is cancelled, and the member is notified of its end
 abbrev pub undone : History
 undone =
     nest ++ at 3 (Close 2 cause.Client) ∷ at 4 (Ask 1 1 ask.Complete) ∷ at 5 (Reply 1 outcome.Done)
@@ -145,7 +145,7 @@ renewed = at 0 Enrol ∷ at 0 (Start 1 None 100) ∷ at 90 (Renew 1 100) ∷ at 
 abbrev pub renewed_too_soon : History
 renewed_too_soon = at 0 Enrol ∷ at 0 (Start 1 None 100) ∷ at 90 (Renew 1 100) ∷ at 100 (Cancel 1 cause.Limit) ∷ []
 
--- a nested action that has closed is taken back by its client, and the outer one closes
+-- a nested action that has closed is cancelled by its client, and the outer one closes
 abbrev pub taken_back : History
 taken_back =
     nest ++ at 3 (Close 2 cause.Client) ∷ at 4 (Ask 1 1 ask.Complete) ∷ at 5 (Reply 1 outcome.Done)
@@ -221,7 +221,7 @@ unfolding steps clerks actions members asks last_moment parent top action_status
     is_outstanding outstanding_ask staying is_settled right_end top_has_ended facts_of broken first_fault
 first_faults = refl
 
--- what version 2 alone knows: a limit that is renewed, and a nested action that is taken back
+-- what version 2 alone allows: a limit that is renewed, and a closed nested action that its client cancels
 pub of_version_two : faults (renewed ∷ renewed_too_soon ∷ taken_back ∷ [])
     ≡ (fault 4 rule.Grammar, None) ∷ (fault 4 rule.Grammar, fault 5 rule.Cause) ∷ (fault 10 rule.Cause, None) ∷ []
 unfolding steps clerks actions members asks last_moment parent top action_status limit_in_force children members_of
@@ -229,8 +229,8 @@ unfolding steps clerks actions members asks last_moment parent top action_status
     is_outstanding outstanding_ask staying is_settled right_end top_has_ended facts_of broken first_fault
 of_version_two = refl
 
--- the statuses in the end: of the failing nest; of the member whose late reply changes nothing; of the one that was
--- taken back
+-- the statuses in the end: of the nested action that fails and of its parent; of the outer action that closes and of
+-- the nested one that its client cancelled
 pub statuses : map (action_status failing) (1 ∷ 2 ∷ []) ++ map (action_status taken_back) (1 ∷ 2 ∷ [])
     ≡ Some action.FailedToClose ∷ Some action.FailedToClose ∷ Some action.Closed ∷ Some action.Cancelled ∷ []
 unfolding action_status
@@ -292,8 +292,8 @@ unfolding steps clerks actions members asks last_moment parent top action_status
     is_outstanding outstanding_ask staying is_settled right_end top_has_ended facts_of next_settling
 cascades = refl
 
--- what members want: one that accepted is asked for its status, one that failed in a nested action that ended is told
--- to forget, and an after notice is repeated until it is answered well
+-- what members want: one that accepted is asked for its status, one that failed in a nested action that ended is asked
+-- to forget, and an after notice is repeated until it is answered with Done
 pub wishes : wants two_members 1 ∷ wants two_members 2 ∷ wants restarted 1 ∷ wants failing 1
     ∷ wants (nest ++ at 3 (Close 2 cause.Client) ∷ []) 1 ∷ wants cancelled_below 1 ∷ wants undone 1 ∷ []
     ≡ Some ask.Status ∷ None ∷ None ∷ None ∷ Some ask.Complete ∷ Some ask.After ∷ None ∷ []

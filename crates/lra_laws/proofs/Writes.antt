@@ -15,7 +15,7 @@ use Rattle.lra_laws.proofs.Push.{last_moment_push}
 use Rattle.lra_laws.proofs.Legal.{Allowed, AllKept, none_broken, legal_more}
 use Rattle.lra_laws.proofs.Ranges.{ranged, in_range_from, clerk_in_range, writer_there}
 
--- who may write, and when: a clerk that is there, at a moment that isn't before the last one
+-- which clerk may write, and when: one that is there, at a moment that isn't before the last one
 pub record MayWrite (v : Version) (t : List ℕ → Bool) (J : History) (by m : ℕ) : Type 0 where
   pub legal : is_legal v t J ≡ true
   pub clerk : is_among (clerks J) by ≡ true
@@ -45,7 +45,7 @@ abbrev pub enrols : Deed → Bool
 enrols Enrol = true
 enrols _ = false
 
--- a deed whose rules are kept may be written by one who may write
+-- a clerk that may write may write a deed whose rules are kept
 pub may_write : (v : Version) (t : List ℕ → Bool) (J : History) (by m : ℕ) (d : Deed) → MayWrite v t J by m → enrols d
     ≡ false → numbers_fit d ≡ true → has_deed v d ≡ true → AllKept (deed_rules v t (facts_of J) m d)
     → Allowed v t J (record { by = by; moment = m; deed = d })
@@ -65,7 +65,7 @@ unfolding facts_of
 may_enrol v t J m low later fits = allowed_by v t J (length (clerks J) + 1) m Enrol low fits refl
     (known_deed v Enrol refl) (eq-eqb (length (clerks J) + 1) (length (clerks J) + 1) refl) later tt
 
--- who has written may go on at that moment
+-- a clerk that has written may go on at that moment
 pub may_go_on : (v : Version) (t : List ℕ → Bool) (J : History) (by m : ℕ) (d : Deed) → is_legal v t J ≡ true
     → Allowed v t J (record { by = by; moment = m; deed = d }) → MayWrite v t
     (J ++ record { by = by; moment = m; deed = d } ∷ []) by m

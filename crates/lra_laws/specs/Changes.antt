@@ -1,4 +1,4 @@
--- Whose wants, and whose deadlines, an entry may change.
+-- The members whose wants, and the actions whose deadlines, an entry may change.
 use Rattle.std.specs.Prelude.{ℕ, List, [], ◌∷◌, Option, None, cond, is_some}
 use Rattle.std.specs.Option.{option_map_or}
 use Rattle.std.specs.List.{flat_map, filter_map}
@@ -19,9 +19,9 @@ member_awaited J n = option_map_or (λ (x : Asked). when (is_outstanding J n) x.
 abbrev pub members_awaited : History → List ℕ
 members_awaited J = filter_map (member_awaited J) (asks J)
 
--- the members whose wants may differ after a deed: the one that it speaks of; all of an action that it closes, cancels
--- or ends, and where that is an outermost one that ends, all below it as well; after a restart those whose asks it
--- makes void
+-- the members whose wants may differ after a deed: the one that it names; all of an action that it closes, cancels or
+-- ends, and where that is an outermost one that ends, all below it as well; after a restart those whose asks it makes
+-- void
 abbrev pub members_changed : History → Deed → List ℕ
 members_changed J (Join p a uris) = p ∷ []
 members_changed J (Leave p) = p ∷ []

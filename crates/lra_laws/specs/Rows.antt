@@ -32,8 +32,8 @@ pub record Standing : Type 0 where
   pub kind : AskKind
   pub direction : Direction
 
--- a member, as the rules see it: completion and compensation are its last replies both ways, and completed_as and
--- compensated_as the outcomes that decide them
+-- the state of a member that the rules read: completion and compensation are its last replies in these directions, and
+-- completed_as and compensated_as the outcomes that decide them
 pub record MemberRow : Type 0 where
   pub action : ℕ
   pub addresses : Presence
@@ -46,9 +46,9 @@ pub record MemberRow : Type 0 where
   pub has_forgotten : Bool
   pub was_told : Bool
 
--- an action, as the rules see it, with how many of its staying members a Closing one and a Cancelling one wait for, and
--- haven't completed and compensated, and how many of the actions nested in it haven't ended, haven't ended cancelled,
--- and have failed
+-- the state of an action that the rules read, with counts: of the staying members that a Closing one and a Cancelling
+-- one wait for, and that haven't completed and haven't compensated; and of the nested actions that haven't ended,
+-- haven't ended cancelled, and have failed
 pub record ActionRow : Type 0 where
   pub parent : Option ℕ
   pub top : ℕ
@@ -73,7 +73,7 @@ pub record State : Type 0 where
 
 -- ---- what the state is, by the words of the history
 
--- the ask that a step makes of a member, or that its reply takes away
+-- the ask that a step makes of a member; Some None where the step is its reply, and None where it is neither
 abbrev pub standing_at : ℕ → Step → Option (Option Standing)
 standing_at p s = of_deed s.entry.deed
   where
@@ -180,7 +180,7 @@ abbrev pub row_at : {R : Type 0} → List R → ℕ → Option R
 row_at rows zero = None
 row_at rows (suc n) = slice_get rows n
 
--- whether an ask is the one of a member that stands
+-- whether an ask is the unanswered one of a member
 abbrev pub stands_as : ℕ → MemberRow → Bool
 stands_as n r = option_map_or (λ (x : Standing). x.number == n) r.asked false
 
@@ -254,7 +254,7 @@ change_status now a s =
     changed : ℕ → ActionStatus → State → List ActionRow
     changed a now s = change_row (λ (x : ActionRow). record x { status = now }) a s.actions
 
--- what a decisive word makes of a member
+-- what a decisive outcome makes of the status of a member that goes this direction
 abbrev pub decided_as : Direction → Outcome → MemberStatus → MemberStatus
 decided_as direction.Completion outcome.Done s = cond (is_completing s) member.Completed s
 decided_as direction.Completion outcome.Failed s = cond (is_completing s) member.FailedToComplete s
@@ -262,11 +262,11 @@ decided_as direction.Compensation outcome.Done s = cond (is_compensating s) memb
 decided_as direction.Compensation outcome.Failed s = cond (is_compensating s) member.FailedToCompensate s
 decided_as _ _ s = s
 
--- which way a status ask or a report of a member goes
+-- which direction a status ask or a report of a member has
 abbrev pub way_of : MemberStatus → Direction
 way_of s = cond (is_compensating s) direction.Compensation direction.Completion
 
--- which way an ask goes, by the status of its member
+-- which direction an ask has, by the status of its member
 abbrev pub way_asked : AskKind → MemberStatus → Direction
 way_asked ask.Complete s = direction.Completion
 way_asked ask.Compensate s = direction.Compensation
@@ -288,21 +288,21 @@ with_ask n kind r = record r {
       Some (record { number = n; kind = kind; direction = way_asked kind r.status });
 }
 
--- one of three by the way that a reply goes
+-- one of three by the direction of a reply
 abbrev pub by_way : Direction → Option Outcome → Option Outcome → Option Outcome → Option Outcome
 by_way direction.Completion completion compensation neither = completion
 by_way direction.Compensation completion compensation neither = compensation
 by_way direction.Neither completion compensation neither = neither
 
--- what a word of one direction decides in another: the same one, if it is decisive
+-- what an outcome in one direction decides in another: itself, if it is decisive and the directions are the same
 abbrev pub word_of : Direction → Direction → Outcome → Option Outcome
 word_of way to o = when (same_direction way to && is_decisive o) o
 
--- what has decided a direction, after one more word
+-- what has decided a direction, after one more outcome
 abbrev pub decided_by : Direction → Direction → Outcome → Option Outcome → Option Outcome
 decided_by to way o before = option_or before (word_of way to o)
 
--- a member that answers the ask that stands
+-- a member that answers this ask
 abbrev pub with_reply_to : Standing → Outcome → MemberRow → MemberRow
 with_reply_to x o r = record r {
   status = decided_as x.direction o r.status;
@@ -367,7 +367,7 @@ new_action a parent top limit moment = record {
 abbrev pub new_top : State → ℕ → Option ℕ → ℕ
 new_top s a parent = option_map_or (λ b. option_map_or (λ (r : ActionRow). r.top) (row_at s.actions b) a) parent a
 
--- the member of the first row that an ask stands in, counted from 1; 0 where there is none
+-- the member of the first row that has an ask unanswered, counted from 1; 0 where there is none
 abbrev pub place_of : ℕ → List MemberRow → ℕ
 place_of n [] = 0
 place_of n (r ∷ rows) = cond (stands_as n r) 1 (after (place_of n rows))

@@ -50,7 +50,7 @@ pub record Sheet : Type 0 where
   pub contacts : List Contact
   pub asks : List Asked
 
--- ---- what the sheet is, by the words of the history
+-- ---- what the snapshot is, by the words of the history
 
 -- where an action stands
 abbrev pub nest_of : History → ℕ → Nest
@@ -74,7 +74,7 @@ contact_of J p = record {
 unfoldable pub asks_made : History → List Asked
 asks_made J = filter_map asked_at (steps J)
 
--- the sheet that stands for a history
+-- the snapshot that stands for a history
 abbrev pub sheet_of : History → Sheet
 sheet_of J = record {
   entries = length J;
@@ -85,14 +85,14 @@ sheet_of J = record {
   asks = asks_made J;
 }
 
--- the sheet stands for a legal history
+-- the snapshot stands for a legal history
 pub record StandsFor (s : Sheet) (J : History) : Type 0 where
   pub version : Version
   pub is_address : List ℕ → Bool
   pub legal : is_legal version is_address J ≡ true
   pub sheet : s ≡ sheet_of J
 
--- the sheet stands for a legal history after which the entry is allowed
+-- the snapshot stands for a legal history after which the entry is allowed
 pub record Follows (s : Sheet) (e : Entry) : Type 0 where
   pub history : History
   pub stands : StandsFor s history
@@ -120,7 +120,7 @@ new_depth nests parent = option_map_or (λ b. option_map_or (λ (n : Nest). suc 
 abbrev pub new_nest : ℕ → Nest
 new_nest depth = record { depth = depth; children = []; members = []; under = [] }
 
--- the outermost action above one, as its row has it; 0, which no action bears, where there is none
+-- the outermost action above one, as its row has it; 0, which is no action's number, where there is none
 abbrev pub top_at : State → ℕ → ℕ
 top_at s a = option_map_or (λ (r : ActionRow). r.top) (row_at s.actions a) 0
 
@@ -136,7 +136,7 @@ nests_after s _ nests = nests
 abbrev pub no_repeats : Repeats
 no_repeats = record { count = 0; last = 0 }
 
--- one that has just joined has none in any stage
+-- a member that has just joined has no repeat in any stage
 abbrev pub new_contact : Addresses → Contact
 new_contact uris = record {
   addresses = uris;
@@ -186,13 +186,13 @@ abbrev pub asks_after : State → Deed → List Asked → List Asked
 asks_after s (Ask n p kind) asks = asks ++ new_ask_by s n p kind
 asks_after s _ asks = asks
 
--- the state after one more deed at a moment: the one that answers is found by the ask
+-- the state after one more deed at a moment: the member that answers is found by the ask
 abbrev pub state_after : ℕ → List Asked → Deed → State → State
 state_after m asks (Reply n o) s = option_map_or (λ (x : Asked). change_member (with_reply o) x.member s)
     (row_at asks n) s
 state_after m asks d s = after_deed m d s
 
--- the sheet after one more deed at a moment, but for the count of entries
+-- the snapshot after one more deed at a moment, but for the count of entries
 abbrev pub deed_done : ℕ → Deed → Sheet → Sheet
 deed_done m d s = record s {
   state = state_after m s.asks d (record s.state { moment = m });
@@ -201,6 +201,6 @@ deed_done m d s = record s {
   asks = asks_after s.state d s.asks;
 }
 
--- the sheet after one more entry, where it is allowed
+-- the snapshot after one more entry, where it is allowed
 abbrev pub sheet_after : Entry → Sheet → Sheet
 sheet_after e s = record (deed_done e.moment e.deed s) { entries = s.entries + 1 }

@@ -5,14 +5,14 @@
 ghost use Rattle.lra_model.specs.GoodEnds.{LegalHistoriesHaveGoodEnds};
 ghost use Rattle.lra_model.specs.Upgrade.{VersionTwoKeepsLegal};
 
-/// Every history that is legal in version 1 of the journal is legal in version 2.
+/// States that every history that is legal in version 1 of the journal is legal in version 2.
 pub fn version_two_keeps_legal_histories()
     ensures { VersionTwoKeepsLegal }
 {}
 
-/// In every legal history of either version, each action that closed has every staying member in it or below it
-/// completed and never asked to compensate, unless a cancellation nested in it compensated it; each that was cancelled
-/// has every one compensated; and an end is a failed one exactly where a staying member failed.
+/// States how actions end in every legal history of either version. If an action closed, every staying member in it or
+/// below it is completed and was never asked to compensate, unless a nested cancellation compensated it. If an action
+/// was cancelled, every such member is compensated. An end is a failed one exactly if such a member failed.
 pub fn legal_histories_have_good_ends()
     ensures { LegalHistoriesHaveGoodEnds }
 {}

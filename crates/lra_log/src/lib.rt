@@ -1,4 +1,4 @@
-//! Lists that contracts alone read. They take no memory, and noting something in them does nothing at run time.
+//! Lists that contracts alone read. They take no memory, and adding a pair to them does nothing at run time.
 #![tactic(auto)]
 
 ghost use Rattle.std.specs.Prelude.{◌≡◌, List, [], ◌∷◌, ◌++◌};
@@ -21,14 +21,14 @@ impl<A, B> Model for Log<A, B> {
 unsafe impl<A: Send, B: Send> Send for Log<A, B> {}
 
 impl<A, B> Log<A, B> {
-    /// The empty list.
+    /// Returns the empty list.
     pub fn new() -> Log<A, B>
         ensures { result.items ≡ [] }
     {
         Log { of: PhantomData }
     }
 
-    /// The list with a pair behind it.
+    /// Returns the list with one more pair at its end.
     pub fn and(&self, first: &A, second: &B) -> Log<A, B>
         ensures { result.items ≡ self.now.items ++ (first.now, second.now) ∷ [] }
     {

@@ -28,17 +28,17 @@ use lra_timers::{Deadline, Memory, Tournament};
 use std::alloc::Global;
 use std::marker::Model;
 
-/// Which of the marked numbers comes first.
+/// The order of the marked numbers: which of them comes first.
 #[derive(Clone, Copy, Debug, PartialEq, Eq)]
 pub enum Order {
     LeastFirst,
     GreatestFirst,
 }
 
-/// The count of numbers that have a leaf of the tree together.
+/// The count of numbers that share a leaf of the tree.
 const BLOCK: usize = 8;
 
-/// Which of the numbers 1, 2, .. up to a last one are marked.
+/// The numbers 1, 2, .. up to a last one, some of which are marked.
 ///
 /// The first of the marked ones is known at once, and a change costs a logarithm of how many numbers there are.
 #[derive(Drop)]
@@ -67,7 +67,7 @@ impl Model for Marks {
     ghost invariant = { λ m. AreLeaves m.order m.flags.items m.leaves.items };
 }
 
-/// The block of the number at a place.
+/// Returns the block of the number at a place.
 fn block_of(place: usize) -> usize
     ensures above { 8 * result ≤ place }
     ensures below { place < 8 * result + 8 }
@@ -107,7 +107,7 @@ fn flag(flags: &[bool], place: usize) -> bool
     place < flags.len() && flags[place]
 }
 
-/// The better of the best so far and of the number at a place, where this is marked.
+/// Returns the deadline of the number at a place, if it is marked and comes before the best so far, else the best.
 fn better(order: Order, best: Deadline, place: usize, is_marked: bool) -> Deadline
     requires { place < 2 ^ 64 - 2 }
     ensures { (flags : List Bool) (start : ℕ) → start ≤ place → flag flags place ≡ is_marked
@@ -122,7 +122,7 @@ fn better(order: Order, best: Deadline, place: usize, is_marked: bool) -> Deadli
     }
 }
 
-/// The leaf of a block.
+/// Returns the leaf of a block: its first marked number, or the last deadline where none is marked.
 fn best_of(order: Order, flags: &[bool], block: usize) -> Deadline
     requires { 8 * block < 2 ^ 63 }
     ensures { IsWritten order flags.now block result }
@@ -135,7 +135,7 @@ fn best_of(order: Order, flags: &[bool], block: usize) -> Deadline
 }
 
 impl Marks {
-    /// Of no numbers.
+    /// Returns a set of no numbers.
     pub fn new(order: Order, alloc: Global) -> Marks
         ensures order { result.order ≡ order }
         ensures marked { result.marked ≡ [] }
@@ -169,7 +169,7 @@ impl Marks {
         Ok(())
     }
 
-    /// One more number, which is the next, and whether it is marked.
+    /// Adds the next number, and marks it or not.
     pub fn push(&mut self, is_marked: bool)
         requires { 0 < self.old.room }
         ensures order { self.new.order ≡ self.old.order }
@@ -186,7 +186,7 @@ impl Marks {
         }
     }
 
-    /// Takes the last number away, and tells whether it was marked.
+    /// Removes the last number, and returns whether it was marked.
     pub fn pop(&mut self) -> bool
         requires { 0 < length self.old.marked }
         ensures order { self.new.order ≡ self.old.order }
@@ -220,7 +220,7 @@ impl Marks {
             .set(block, best_of(self.order, &self.flags, block));
     }
 
-    /// A number that isn't there is not marked.
+    /// Returns whether a number is marked. One that isn't there is not.
     pub fn is_marked(&self, number: u64) -> bool
         ensures { result ≡ mark_at self.now.marked number }
     {
@@ -230,7 +230,7 @@ impl Marks {
         }
     }
 
-    /// The first of the marked numbers, where there are any.
+    /// Returns the first of the marked numbers, if there are any.
     pub fn first(&self) -> Option<u64>
         ensures some { IfSome result (IsFirstMarked self.now.order self.now.marked) }
         ensures none { IfNone result (NoneMarked self.now.marked) }

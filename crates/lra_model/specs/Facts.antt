@@ -1,4 +1,4 @@
--- What the rules ask of a history. Each of these words is read from the whole history.
+-- What the rules read of a history. Each of these facts is read from the whole history.
 use Rattle.std.specs.Prelude.{ℕ, Bool, Option, Some, None, is_some, length, option_map, cond, unwrap_or}
 use Rattle.lra_model.specs.declared.status.ActionStatus.{ActionStatus}
 use Rattle.lra_model.specs.declared.status.ActionStatus.TheVariants as action
@@ -14,7 +14,7 @@ use Rattle.lra_model.specs.Members.{Asked, action_of, addresses_of, member_statu
 use Rattle.lra_model.specs.Members.{is_outstanding, outstanding_ask, ask_of}
 use Rattle.lra_model.specs.Ends.{is_settled, right_end, top_has_ended}
 
--- what the rules ask of an action (this project's choice)
+-- what the rules read of an action (this project's choice)
 pub record ActionFacts : Type 0 where
   pub parent : Option ℕ
   pub status : ActionStatus
@@ -23,8 +23,8 @@ pub record ActionFacts : Type 0 where
   pub right_end : ActionStatus
   pub top_has_ended : Bool
 
--- what the rules ask of a member: which addresses it has, its last replies both ways, whether an ask of it is
--- outstanding, and which notices it has answered well (this project's choice)
+-- what the rules read of a member: which addresses it has, its last replies in both directions, whether an ask of it is
+-- outstanding, and which notices it has answered with Done (this project's choice)
 pub record MemberFacts : Type 0 where
   pub action : ℕ
   pub addresses : Presence
@@ -35,8 +35,8 @@ pub record MemberFacts : Type 0 where
   pub has_forgotten : Bool
   pub was_told : Bool
 
--- what the rules ask of a history: its last moment, how many clerks, actions, members and asks it has, which clerks are
--- enrolled, the facts of each action and member, and the kind of each outstanding ask (this project's choice)
+-- what the rules read of a history: its last moment, how many clerks, actions, members and asks it has, which clerks
+-- are enrolled, the facts of each action and member, and the kind of each outstanding ask (this project's choice)
 pub record Facts : Type 0 where
   pub moment : ℕ
   pub clerks : ℕ

@@ -1,4 +1,4 @@
--- Who has joined an action before.
+-- The member that has joined an action with the same addresses before.
 use Rattle.std.specs.Prelude.{ℕ, Bool, true, false, ◌&&◌, not, List, Option, Some, None}
 use Rattle.std.specs.List.{find}
 use Rattle.std.specs.Str.{bytes_eq}
@@ -19,7 +19,7 @@ same_addresses u w =
     same_address u.compensate w.compensate && same_address u.complete w.complete && same_address u.status w.status
     && same_address u.forget w.forget && same_address u.after w.after
 
--- the least member of an action that has not left and has these addresses already: joining again is answered by it
+-- the least member of an action that has not left and has these addresses already: a join with them again returns it
 -- (this project's choice)
 unfoldable pub already_member : History → ℕ → Addresses → Option ℕ
 already_member J a u = find (λ p. not (has_left J p) && same_addresses (addresses_of J p) u) (members_of J a)

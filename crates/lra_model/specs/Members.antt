@@ -23,8 +23,8 @@ abbrev pub action_given : ℕ → Deed → Option ℕ
 action_given p (Join q a uris) = when (q == p) a
 action_given p _ = None
 
--- the action that a member joined, or 0, which no action bears, where there is no such member (MicroProfile LRA 2.0,
--- joining an LRA)
+-- the action that a member joined, or 0, which is no action's number, where there is no such member (MicroProfile LRA
+-- 2.0, joining an LRA)
 unfoldable pub action_of : History → ℕ → ℕ
 action_of J p = unwrap_or (first (read_deeds (action_given p) J)) 0
 
@@ -121,14 +121,14 @@ replied_at s = of_deed s.entry.deed
 unfoldable pub replies : History → List Replied
 replies J = filter_map replied_at (steps J)
 
--- what was heard of a member in a direction (this project's choice)
+-- what an entry says of a member in a direction (this project's choice)
 pub record Heard : Type 0 where
   pub member : ℕ
   pub direction : Direction
   pub outcome : Outcome
 
--- What a step lets hear: a reply in the direction of its ask, a report in that of the member, and a skip as Done in
--- completion (this project's choice).
+-- What a step says of a member: a reply in the direction of its ask, a report in that of the member, and a skip as Done
+-- in completion (this project's choice).
 abbrev pub heard_at : Step → Option Heard
 heard_at s = of_deed s.entry.deed
   where
@@ -139,11 +139,11 @@ heard_at s = of_deed s.entry.deed
     of_deed (Skip p) = Some (record { member = p; direction = direction.Completion; outcome = outcome.Done })
     of_deed _ = None
 
--- whether what was heard decides a direction of a member (this project's choice)
+-- whether what an entry says decides a direction of a member (this project's choice)
 abbrev pub decides : ℕ → Direction → Heard → Bool
 decides p d h = (h.member == p) && same_direction h.direction d && is_decisive h.outcome
 
--- the outcome that decides a direction of a member: the first decisive one heard, which later ones don't change (this
+-- the outcome that decides a direction of a member: the first decisive one, which later ones don't change (this
 -- project's choice)
 unfoldable pub decided : History → ℕ → Direction → Option Outcome
 decided J p d = option_map (λ (h : Heard). h.outcome) (find (decides p d) (filter_map heard_at (steps J)))

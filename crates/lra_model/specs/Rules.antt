@@ -44,7 +44,7 @@ is_member = at_member (λ (p : MemberFacts). true)
 abbrev pub is_here : Facts → ℕ → Bool
 is_here = at_member (λ (p : MemberFacts). not (has_gone p.status))
 
--- the rules that bear on a deed, in the order in which they are looked at (MicroProfile LRA 2.0 as each test says; the
+-- the rules that concern a deed, in the order in which they are checked (MicroProfile LRA 2.0 as each test says; the
 -- order is this project's choice)
 abbrev pub deed_rules : Version → (List ℕ → Bool) → Facts → ℕ → Deed → List Ruling
 deed_rules v t f m Enrol = []
@@ -79,7 +79,7 @@ deed_rules v t f m Restart = []
 deed_rules v t f m (Renew a limit) =
     (rule.Action, is_action f a) ∷ (rule.Active, status_is is_active f a) ∷ (rule.Limit, is_moment (m + limit)) ∷ []
 
--- all rules that bear on an entry, in the order in which they are looked at; t is the test of an address's text (this
+-- all rules that concern an entry, in the order in which they are checked; t is the test of an address's text (this
 -- project's choice)
 abbrev pub rules_on : Version → (List ℕ → Bool) → Facts → Entry → List Ruling
 rules_on v t f e = (rule.Grammar, has_deed v e.deed) ∷ (rule.Clerk, clerk_fits f e.by e.deed)

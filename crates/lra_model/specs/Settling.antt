@@ -1,4 +1,4 @@
--- What follows by itself: the entries that settle a history, and the one that comes next.
+-- What follows by itself: the entries that settle a history, and the next of them.
 use Rattle.std.specs.Prelude.{◌≡◌, ℕ, zero, suc, ◌+◌, ◌*◌, Bool, true, false, List, [], ◌∷◌, ◌++◌, length, Option, Some}
 use Rattle.std.specs.Prelude.{None, option_map, cond}
 use Rattle.std.specs.Option.{option_map_or, option_or}
@@ -14,7 +14,7 @@ use Rattle.lra_model.specs.Facts.{facts_of}
 use Rattle.lra_model.specs.Tests.{at_action, at_member, may_close_with_parent, may_cancel_with_parent, may_skip}
 use Rattle.lra_model.specs.Rules.{allows}
 
--- whether a coordinator does a deed of itself: a skip, what a parent does to an action nested in it, or an end (this
+-- whether a coordinator does a deed by itself: a skip, what a parent does to an action nested in it, or an end (this
 -- project's choice)
 abbrev pub is_settling : Deed → Bool
 is_settling (Close a cause.Parent) = true
@@ -40,7 +40,7 @@ by_parent J a =
     cond (at_action (may_close_with_parent (facts_of J)) (facts_of J) a) (Some (Close a cause.Parent))
     (cond (at_action (may_cancel_with_parent (facts_of J)) (facts_of J) a) (Some (Cancel a cause.Parent)) None)
 
--- The deed that a coordinator does next of itself, where there is one: the skip of the least member that may be
+-- The deed that a coordinator does next by itself, where there is one: the skip of the least member that may be
 -- skipped; else what its parent does to the least action to which it does anything; else the end of the greatest action
 -- that may end (this project's choice).
 unfoldable pub next_settling : History → Option Deed
@@ -56,8 +56,8 @@ settling_within zero by moment J = []
 settling_within (suc n) by moment J = option_map_or (λ (d : Deed). (record { by = by; moment = moment; deed = d })
     ∷ settling_within n by moment (J ++ record { by = by; moment = moment; deed = d } ∷ [])) (next_settling J) []
 
--- how many settling entries there can be: a member is skipped once, and an action turns four times at most, to Closing,
--- its end, Cancelling and its end
+-- how many settling entries there can be: a member is skipped once, and an action changes its status four times at
+-- most, to Closing, its end, Cancelling and its end
 abbrev pub most_settling : History → ℕ
 most_settling J = length (members J) + 4 * length (actions J)
 

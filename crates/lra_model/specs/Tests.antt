@@ -46,13 +46,13 @@ abbrev pub may_close_with_parent : Facts → ActionFacts → Bool
 may_close_with_parent f a = is_active a.status && parent_is is_closing f a
 
 -- A close is allowed by its cause: the client may close an Active action (MicroProfile LRA 2.0, closing an LRA), the
--- parent what it takes with it, and a limit nothing.
+-- parent an action that may be closed with it, and a limit nothing.
 abbrev pub may_close : Cause → Facts → ActionFacts → Bool
 may_close cause.Client f a = is_active a.status
 may_close cause.Parent f a = may_close_with_parent f a
 may_close cause.Limit f a = false
 
--- Version 2 lets a client take back a nested action that has closed, as long as its parent is Active (this project's
+-- In version 2 a client may cancel a nested action that is Closed, as long as its parent is Active (this project's
 -- choice).
 abbrev pub may_take_back : Version → Facts → ActionFacts → Bool
 may_take_back version.One f a = false
@@ -62,13 +62,13 @@ may_take_back version.Two f a = is_closed a.status && parent_is is_active f a
 abbrev pub limit_has_passed : ℕ → ActionFacts → Bool
 limit_has_passed moment a = not (a.limit.length_of == 0) && nat_le (a.limit.since + a.limit.length_of) moment
 
--- The client may cancel an Active action (MicroProfile LRA 2.0, cancelling an LRA), and take back what the version lets
--- it.
+-- The client may cancel an Active action (MicroProfile LRA 2.0, cancelling an LRA), and in version 2 a nested Closed
+-- one whose parent is Active.
 abbrev pub may_cancel_as_client : Version → Facts → ActionFacts → Bool
 may_cancel_as_client v f a = is_active a.status || may_take_back v f a
 
--- An action may be cancelled with its parent where it is Active or has closed and its parent is Cancelling
--- (MicroProfile LRA 2.0: cancelling an LRA cancels what is nested in it).
+-- An action may be cancelled with its parent where it is Active, Closed or FailedToClose and its parent is Cancelling
+-- (MicroProfile LRA 2.0: cancelling an LRA cancels what is nested in it; FailedToClose is this project's choice).
 abbrev pub may_cancel_with_parent : Facts → ActionFacts → Bool
 may_cancel_with_parent f a = is_cancellable a.status && parent_is is_cancelling f a
 
@@ -135,7 +135,7 @@ may_ask kind f p = not p.is_asked && has_address kind p.addresses && is_time_for
 abbrev pub may_reply : Facts → ℕ → Outcome → Bool
 may_reply f n o = option_map_or (λ (kind : AskKind). outcome_suits kind o) (f.outstanding n) false
 
--- whether a member may tell of itself: it is completing or compensating, and tells how that ended (MicroProfile LRA
--- 2.0, ParticipantStatus)
+-- whether a member may report an outcome: it is completing or compensating, and the outcome is Done or Failed
+-- (MicroProfile LRA 2.0, ParticipantStatus)
 abbrev pub may_report : Outcome → MemberFacts → Bool
 may_report o p = (is_completing p.status || is_compensating p.status) && is_decisive o

@@ -1,4 +1,4 @@
--- What a new version of the journal owes to the old one.
+-- What a new version of the journal keeps of the old one.
 use Rattle.std.specs.Prelude.{◌≡◌, ℕ, Bool, true, List}
 use Rattle.lra_model.specs.declared.version.Version.TheVariants.{One, Two}
 use Rattle.lra_model.specs.History.{History}

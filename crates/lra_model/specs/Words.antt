@@ -16,7 +16,7 @@ abbrev pub when : {X : Type 0} → Bool → X → Option X
 when true x = Some x
 when false x = None
 
--- whether an action may still be closed or cancelled by its client: Active (MicroProfile LRA 2.0, LRAStatus)
+-- whether an action is Active, so that its client may close or cancel it (MicroProfile LRA 2.0, LRAStatus)
 abbrev pub is_active : ActionStatus → Bool
 is_active action.Active = true
 is_active _ = false
@@ -31,7 +31,7 @@ abbrev pub is_cancelling : ActionStatus → Bool
 is_cancelling action.Cancelling = true
 is_cancelling _ = false
 
--- whether an action has closed well: Closed, and not FailedToClose (MicroProfile LRA 2.0, LRAStatus)
+-- whether an action has closed without failure: Closed, and not FailedToClose (MicroProfile LRA 2.0, LRAStatus)
 abbrev pub is_closed : ActionStatus → Bool
 is_closed action.Closed = true
 is_closed _ = false
@@ -66,7 +66,7 @@ is_cancellable action.Closed = true
 is_cancellable action.FailedToClose = true
 is_cancellable _ = false
 
--- whether two statuses are one
+-- whether two statuses are the same
 abbrev pub same_status : ActionStatus → ActionStatus → Bool
 same_status action.Active action.Active = true
 same_status action.Closing action.Closing = true
@@ -77,7 +77,8 @@ same_status action.Cancelled action.Cancelled = true
 same_status action.FailedToCancel action.FailedToCancel = true
 same_status _ _ = false
 
--- whether a member was asked nothing yet: Active (MicroProfile LRA 2.0, ParticipantStatus)
+-- whether a member is Active: it hasn't left, and was asked neither to complete nor to compensate (MicroProfile LRA
+-- 2.0, ParticipantStatus)
 abbrev pub is_untouched : MemberStatus → Bool
 is_untouched member.Active = true
 is_untouched _ = false
@@ -127,7 +128,7 @@ is_done_compensating member.FailedToCompensate = true
 is_done_compensating member.FailedToComplete = true
 is_done_compensating _ = false
 
--- whether an outcome settles a direction: Done or Failed (this project's choice)
+-- whether an outcome decides a direction: Done or Failed (this project's choice)
 abbrev pub is_decisive : Outcome → Bool
 is_decisive outcome.Done = true
 is_decisive outcome.Failed = true
@@ -150,7 +151,7 @@ is_undecided outcome.Accepted = true
 is_undecided outcome.Silent = true
 is_undecided _ = false
 
--- whether two kinds are one
+-- whether two kinds are the same
 abbrev pub same_kind : AskKind → AskKind → Bool
 same_kind ask.Complete ask.Complete = true
 same_kind ask.Compensate ask.Compensate = true
@@ -159,7 +160,7 @@ same_kind ask.Forget ask.Forget = true
 same_kind ask.After ask.After = true
 same_kind _ _ = false
 
--- whether two directions are one
+-- whether two directions are the same
 abbrev pub same_direction : Direction → Direction → Bool
 same_direction direction.Completion direction.Completion = true
 same_direction direction.Compensation direction.Compensation = true

@@ -15,7 +15,7 @@ pub enum AskKind {
     After,
 }
 
-/// Which way an ask, a reply or a report goes.
+/// The direction of an ask, a reply or a report.
 #[derive(Clone, Copy, Debug, PartialEq, Eq)]
 pub enum Direction {
     Completion,
@@ -43,7 +43,7 @@ pub enum Cause {
 impl AskKind {
     ghost use Rattle.lra_model.specs.Names.{ask_kind_name};
 
-    /// Its word in a journal.
+    /// Returns its word in a journal.
     pub const fn name(self) -> &'static str
         ensures { result.now ≡ ask_kind_name self }
     {
@@ -56,7 +56,7 @@ impl AskKind {
         }
     }
 
-    /// The kind of this name, if there is one.
+    /// Returns the kind of this name, if there is one.
     pub fn from_name(text: &[u8]) -> Option<Self>
         ensures found { IfSome result (λ kind. text.now ≡ ask_kind_name kind) }
         ensures only { (kind : AskKind) → text.now ≡ ask_kind_name kind → result ≡ Some kind }
@@ -85,7 +85,7 @@ impl Named for AskKind {
 impl Direction {
     ghost use Rattle.lra_model.specs.Names.{direction_name};
 
-    /// Its word.
+    /// Returns its word.
     pub const fn name(self) -> &'static str
         ensures { result.now ≡ direction_name self }
     {
@@ -96,7 +96,7 @@ impl Direction {
         }
     }
 
-    /// The direction of this name, if there is one.
+    /// Returns the direction of this name, if there is one.
     pub fn from_name(text: &[u8]) -> Option<Self>
         ensures found { IfSome result (λ direction. text.now ≡ direction_name direction) }
         ensures only { (direction : Direction) → text.now ≡ direction_name direction → result ≡ Some direction }
@@ -124,7 +124,7 @@ impl Outcome {
     ghost use Rattle.lra_model.specs.Names.{outcome_name};
     ghost use Rattle.lra_model.specs.Words.{is_decisive};
 
-    /// Its word in a journal.
+    /// Returns its word in a journal.
     pub const fn name(self) -> &'static str
         ensures { result.now ≡ outcome_name self }
     {
@@ -136,7 +136,7 @@ impl Outcome {
         }
     }
 
-    /// The outcome of this name, if there is one.
+    /// Returns the outcome of this name, if there is one.
     pub fn from_name(text: &[u8]) -> Option<Self>
         ensures found { IfSome result (λ outcome. text.now ≡ outcome_name outcome) }
         ensures only { (outcome : Outcome) → text.now ≡ outcome_name outcome → result ≡ Some outcome }
@@ -150,7 +150,7 @@ impl Outcome {
         find_by_name(&values, text)
     }
 
-    /// Returns whether it settles a direction.
+    /// Returns whether it decides a direction.
     pub const fn is_decisive(self) -> bool
         ensures { result ≡ is_decisive self }
     {
@@ -171,7 +171,7 @@ impl Named for Outcome {
 impl Cause {
     ghost use Rattle.lra_model.specs.Names.{cause_name};
 
-    /// Its word in a journal.
+    /// Returns its word in a journal.
     pub const fn name(self) -> &'static str
         ensures { result.now ≡ cause_name self }
     {
@@ -182,7 +182,7 @@ impl Cause {
         }
     }
 
-    /// The cause of this name, if there is one.
+    /// Returns the cause of this name, if there is one.
     pub fn from_name(text: &[u8]) -> Option<Self>
         ensures found { IfSome result (λ cause. text.now ≡ cause_name cause) }
         ensures only { (cause : Cause) → text.now ≡ cause_name cause → result ≡ Some cause }
@@ -202,8 +202,8 @@ impl Named for Cause {
     }
 }
 
-/// Returns whether an ask of this kind may have this outcome: all may for complete, compensate and status, and for
-/// forget and after Done and Silent alone.
+/// Returns whether an ask of this kind may have this outcome. Asks to complete, to compensate and for a status may have
+/// any outcome. Asks to forget and notices of the end may have Done and Silent alone.
 pub fn suits(kind: AskKind, outcome: Outcome) -> bool
     ensures { result ≡ outcome_suits kind outcome }
 {

@@ -1,4 +1,4 @@
-//! The search for what has a name.
+//! The search for a value by its name.
 
 ghost use Rattle.std.specs.Prelude.{◌≡◌, List, ℕ, find, bytes_eq, IfSome, Some};
 
@@ -7,15 +7,15 @@ pub trait Named: Copy {
     // Its name, as bytes.
     ghost name_of: { Self → List ℕ };
 
-    /// Its name.
+    /// Returns its name.
     fn name(self) -> &'static str
         ensures { result.now ≡ name_of self };
 }
 
-/// The first of these values of which the text is the name.
+/// Returns the first of these values whose name is the text.
 pub fn find_by_name<T: Named>(values: &[T], text: &[u8]) -> Option<T>
     ensures found { IfSome result (λ value. text.now ≡ T.name_of value) }
-    // A value that is the first of its name is found by it.
+    // A value is found by its name if it is the first of that name.
     ensures only { (value : T) → find (λ other. bytes_eq (T.name_of value) (T.name_of other)) values.now ≡ Some value
         → text.now ≡ T.name_of value → result ≡ Some value }
 {

@@ -4,7 +4,7 @@ ghost use Rattle.std.specs.Prelude.{◌≡◌, IfSome, Some};
 
 use crate::naming::{Named, find_by_name};
 
-/// A rule that a line of a journal may break, in the order in which they are looked at.
+/// A rule that a line of a journal may break. The rules are checked in this order.
 #[derive(Clone, Copy, Debug, PartialEq, Eq)]
 pub enum Rule {
     /// The first line is a header.
@@ -17,15 +17,15 @@ pub enum Rule {
     Moment,
     /// An action, a member or an ask that begins has the next number of its kind.
     Number,
-    /// The action is there.
+    /// The action exists.
     Action,
-    /// The member is there.
+    /// The member exists.
     Member,
     /// The member hasn't left.
     Left,
     /// The action is Active.
     Active,
-    /// The addresses are such as a member may have.
+    /// The addresses are ones that a member may have.
     Addresses,
     /// The limit's end is a moment.
     Limit,
@@ -33,11 +33,11 @@ pub enum Rule {
     Cause,
     /// The member may be completed without being asked.
     Skip,
-    /// The member may be asked that.
+    /// The member may get an ask of that kind now.
     Ask,
-    /// The ask is outstanding, and may be answered so.
+    /// The ask is outstanding, and its kind may have this outcome.
     Reply,
-    /// The member is completing or compensating, and tells how it ended.
+    /// The member is completing or compensating, and it reports Done or Failed.
     Report,
     /// An action that ends is closing or cancelling, and nothing in it is unsettled.
     Unsettled,
@@ -48,7 +48,7 @@ pub enum Rule {
 impl Rule {
     ghost use Rattle.lra_model.specs.Names.{rule_name};
 
-    /// Its code in a verdict.
+    /// Returns its code in a verdict.
     pub const fn name(self) -> &'static str
         ensures { result.now ≡ rule_name self }
     {
@@ -74,7 +74,7 @@ impl Rule {
         }
     }
 
-    /// The rule of this name, if there is one.
+    /// Returns the rule of this name, if there is one.
     pub fn from_name(text: &[u8]) -> Option<Self>
         ensures found { IfSome result (λ rule. text.now ≡ rule_name rule) }
         ensures only { (rule : Rule) → text.now ≡ rule_name rule → result ≡ Some rule }

@@ -42,7 +42,7 @@ impl ActionStatus {
     ghost use Rattle.lra_model.specs.Names.{action_status_name};
     ghost use Rattle.lra_model.specs.Words as words;
 
-    /// Its word in a journal.
+    /// Returns its word in a journal.
     pub const fn name(self) -> &'static str
         ensures { result.now ≡ action_status_name self }
     {
@@ -57,7 +57,7 @@ impl ActionStatus {
         }
     }
 
-    /// The status of this name, if there is one.
+    /// Returns the status of this name, if there is one.
     pub fn from_name(text: &[u8]) -> Option<Self>
         ensures found { IfSome result (λ status. text.now ≡ action_status_name status) }
         ensures only { (status : ActionStatus) → text.now ≡ action_status_name status → result ≡ Some status }
@@ -74,7 +74,7 @@ impl ActionStatus {
         find_by_name(&values, text)
     }
 
-    /// Returns whether it may still be closed or cancelled by its client.
+    /// Returns whether it is Active, so that its client may close or cancel it.
     pub const fn is_active(self) -> bool
         ensures { result ≡ words.is_active self }
     {
@@ -95,7 +95,7 @@ impl ActionStatus {
         matches!(self, ActionStatus::Cancelling)
     }
 
-    /// Returns whether it closed well.
+    /// Returns whether it has closed without failure.
     pub const fn is_closed(self) -> bool
         ensures { result ≡ words.is_closed self }
     {
@@ -135,7 +135,7 @@ impl ActionStatus {
         )
     }
 
-    /// Returns whether it is that status.
+    /// Returns whether it is the same status as another.
     pub const fn is_same(self, other: ActionStatus) -> bool
         ensures { result ≡ words.same_status self other }
     {
@@ -165,7 +165,7 @@ impl MemberStatus {
     ghost use Rattle.lra_model.specs.Names.{member_status_name};
     ghost use Rattle.lra_model.specs.Words as words;
 
-    /// Its word in a journal.
+    /// Returns its word in a journal.
     pub const fn name(self) -> &'static str
         ensures { result.now ≡ member_status_name self }
     {
@@ -181,7 +181,7 @@ impl MemberStatus {
         }
     }
 
-    /// The status of this name, if there is one.
+    /// Returns the status of this name, if there is one.
     pub fn from_name(text: &[u8]) -> Option<Self>
         ensures found { IfSome result (λ status. text.now ≡ member_status_name status) }
         ensures only { (status : MemberStatus) → text.now ≡ member_status_name status → result ≡ Some status }
@@ -199,7 +199,7 @@ impl MemberStatus {
         find_by_name(&values, text)
     }
 
-    /// Returns whether it was asked nothing yet.
+    /// Returns whether it is Active: its member hasn't left, and was asked neither to complete nor to compensate.
     pub const fn is_untouched(self) -> bool
         ensures { result ≡ words.is_untouched self }
     {
@@ -224,7 +224,7 @@ impl MemberStatus {
         matches!(self, MemberStatus::Compensating)
     }
 
-    /// Returns whether it has failed, either way.
+    /// Returns whether its member failed to complete or to compensate.
     pub const fn has_failed(self) -> bool
         ensures { result ≡ words.member_has_failed self }
     {
@@ -255,7 +255,7 @@ impl Named for MemberStatus {
 impl Ending {
     ghost use Rattle.lra_model.specs.Names.{ending_name};
 
-    /// Its word in a journal.
+    /// Returns its word in a journal.
     pub const fn name(self) -> &'static str
         ensures { result.now ≡ ending_name self }
     {
@@ -267,7 +267,7 @@ impl Ending {
         }
     }
 
-    /// The ending of this name, if there is one.
+    /// Returns the ending of this name, if there is one.
     pub fn from_name(text: &[u8]) -> Option<Self>
         ensures found { IfSome result (λ ending. text.now ≡ ending_name ending) }
         ensures only { (ending : Ending) → text.now ≡ ending_name ending → result ≡ Some ending }

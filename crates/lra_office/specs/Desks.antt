@@ -22,8 +22,8 @@ pub record IsCut (g : Setting) (J : History) (tail : List ℕ) : Type 0 where
   pub short : count < length (growth_text g J call)
   pub front : tail ≡ take count (growth_text g J call)
 
--- what the writer took since the office was made: behind the front that is the text of the history, and, once the
--- scribe has stopped, the beginning of a block, cut short; the scribe's count of it stands at 2^64 - 1 for more
+-- what the writer took since the office was made: behind the journal prefix that is the text of the history, and, once
+-- the scribe has stopped, the beginning of a block, cut short; the scribe's count of it stands at 2^64 - 1 for more
 pub record IsWritten (o : Origin) (J : History) (contents : Option (List ℕ)) (count : ℕ) (is_stopped : Bool)
     : Type 0 where
   pub taken : List ℕ

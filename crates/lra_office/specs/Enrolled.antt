@@ -1,4 +1,4 @@
--- What a clerk is that was enrolled.
+-- What an enrolled clerk is.
 use Rattle.std.specs.Prelude.{◌≡◌, ℕ, [], None}
 use Rattle.lra_ticket.specs.declared.view.View.{View}
 use Rattle.lra_ticket.specs.History.{entries_by}

@@ -15,7 +15,8 @@ pub record HasSoundJournal (J : History) (journal : List ℕ) (is_stopped : Bool
   pub sound : IsSoundAlone (whole_lines journal) (J ++ cut)
   pub going : is_stopped ≡ false → (cut ≡ []) × (whole_lines journal ≡ journal)
 
--- so it is with the front that an office went on from and all that its writer took since, whenever the lock is free
+-- so it is with the journal prefix that an office went on from and all that its writer took since, whenever the lock is
+-- free
 abbrev pub JournalsAreSound : Type 0
 JournalsAreSound =
     (o : Origin) (c : Shape) (contents : Option (List ℕ)) (count : ℕ) (is_stopped : Bool)

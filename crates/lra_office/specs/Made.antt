@@ -37,7 +37,7 @@ pub record IsCutShort {W : Type 0} (contents : W → Option (List ℕ)) (before 
     pub short : count < length text
     pub grown : Appends (contents before) (contents after) (take count text)
 
--- why no new office is made: its header was cut short, and the writer comes back; or no memory was left
+-- why no new office is made: its header was cut short, and the writer is returned; or no memory was left
 abbrev pub IsNotStarted : {W : Type 0} → (W → Option (List ℕ)) → W → List ℕ → StartFault → Option W → Type 0
 IsNotStarted contents before header Stopped (Some after) = IsCutShort contents before header after
 IsNotStarted contents before header Stopped None = ⊥

@@ -66,14 +66,14 @@ IsQueried g v q (Ok k) w = IsAnswered g v q (Ok k) w
 IsQueried g v q (Err (Refused r)) w = IsAnswered g v q (Err r) w
 IsQueried g v q (Err Worn) w = w ≡ moved v (Looked last_ticket)
 
--- the first moment at which something is due or late was told of a history that was met, and nothing was changed
+-- the first moment at which something is due or late was returned for a history that was met, and nothing was changed
 pub record IsForetold {O : Type 0} (g : Setting) (v : View O) (next : Option ℕ) (w : View O) : Type 0 where
   pub history : History
   pub met : IsMet g v history
   pub told : IsFirstMoment g.limits history next
   pub after : w ≡ met_view v history
 
--- that moment was told, or no ticket was left
+-- that moment was returned, or no ticket was left
 abbrev pub IsLookedAhead : {O : Type 0} → Setting → View O → Result (Option ℕ) OfficeRefusal → View O → Type 0
 IsLookedAhead g v (Ok next) w = IsForetold g v next w
 IsLookedAhead g v (Err Worn) w = w ≡ moved v (Looked last_ticket)
@@ -84,7 +84,7 @@ abbrev pub IsNotGiven : {O : Type 0} → Setting → View O → Call → OfficeR
 IsNotGiven g v c (Refused r) w = (J : History) × IsMet g v J × IsHeldBack (terms_of g) J c r × (w ≡ met_view v J)
 IsNotGiven g v c Worn w = w ≡ moved v (Looked last_ticket)
 
--- a call that is told something, whatever errand it gave
+-- a call that is answered, whatever errand it gave
 abbrev pub IsTold : {O : Type 0} → Setting → View O → Call → Result Told OfficeRefusal → View O → Type 0
 IsTold g v c (Ok t) w = (e : Option Asking) × IsGrown g v c t e w
 IsTold g v c (Err r) w = IsNotGiven g v c r w
@@ -94,7 +94,7 @@ abbrev pub IsErrand : {O : Type 0} → Setting → View O → Call → Result (O
 IsErrand g v c (Ok e) w = (t : Told) × IsGrown g v c t e w
 IsErrand g v c (Err r) w = IsNotGiven g v c r w
 
--- what came of an ask was recorded, or the errand came back
+-- the outcome of an ask was recorded, or the errand was returned
 abbrev pub IsRecorded : {O : Type 0} → Setting → View O → ℕ → ℕ → Asking → Outcome
     → Result Told (OfficeRefusal × Asking) → View O → Type 0
 IsRecorded g v number at e o result w =

@@ -2,8 +2,8 @@
 use Rattle.std.specs.Prelude.{ℕ, List, Option}
 use Rattle.lra_commands.specs.Counters.{Setting}
 
--- what an office was made with: what its coordinator keeps, the front of the journal that it goes on from, and what its
--- writer had taken before, where it tells that
+-- what an office was made with: what its coordinator keeps, the journal prefix that it goes on from, and what its
+-- writer had taken before, where it shows that
 pub record Origin : Type 0 where
   pub setting : Setting
   pub front : List ℕ

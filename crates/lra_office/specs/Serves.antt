@@ -1,4 +1,4 @@
--- What a command comes to at a desk.
+-- What a command does at a desk.
 use Rattle.std.specs.Prelude.{◌≡◌, ◌≢◌, true, ◌⊎◌, [], IsOk, Option, Result, Ok, Err}
 use Rattle.lra_model.specs.History.{History}
 use Rattle.lra_commands.specs.declared.command.Told.{Told}
@@ -27,7 +27,7 @@ pub record IsStopped (s : Terms) (J : History) (c : Call) : Type 0 where
 abbrev pub IsHeldBack : Terms → History → Call → Refusal → Type 0
 IsHeldBack s J c r = IsRefusal s J c r ⊎ ((r ≡ Stopped) × IsStopped s J c)
 
--- a call was done: it was told what it has to be, and given its errand, and the history grew by it
+-- a call was done: it got the definitions' answer and its errand, and the history grew by it
 pub record IsDone (g : Setting) (J : History) (c : Call) (t : Told) (e : Option Asking) (K : History) : Type 0 where
   pub answered : answer (terms_of g) J c ≡ Ok t
   pub errand : e ≡ errand_of g J c

@@ -1,4 +1,4 @@
--- That a scribe has stopped, as the one learns it whose call can't be written.
+-- That a scribe has stopped, as a caller learns it whose call can't be written.
 use Rattle.std.specs.Prelude.{◌≡◌, ◌⊎◌, true, Bool, ℕ, Result, Err}
 use Rattle.lra_model.specs.History.{History}
 use Rattle.lra_ticket.specs.declared.view.View.{View}
@@ -23,8 +23,8 @@ pub record HasStopped {X O : Type 0} (origin : X → O) (history : X → History
   pub same_history : history value ≡ v.seen
   pub stopped : has_stopped value ≡ true
 
--- what each window keeps: what every counter does; and where its reply is that the scribe has stopped, that has, at the
--- history that is known then
+-- what each window keeps: what every counter does; and where its reply is that the scribe has stopped, the scribe has,
+-- at the history that is known then
 pub record KeepsInTurn {X O : Type 0} (setting : O → Setting) (origin : X → O) (history : X → History)
     (lawful : X → Type 0) (has_stopped : X → Bool)
     (before : Sight) (moment : ℕ) (o : Order) (reply : Result Told CounterFault) (after : Sight) : Type 0 where

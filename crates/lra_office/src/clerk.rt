@@ -4,19 +4,19 @@ ghost use Rattle.std.specs.Prelude.{◌≡◌, Some, None, IsSome};
 
 use lra_ticket::{Kept, Pass};
 
-/// One that gives commands to an office under its number: its right to ask for the lock, and so what it has seen of the
-/// history.
+/// A clerk: it gives commands to an office under its number. It has the right to ask for the lock, and so what it has
+/// seen of the history.
 #[derive(Drop)]
 pub struct Clerk<V: Kept> {
     pub(crate) number: u32,
-    /// The number of bytes of the journal that tell of all that it has seen.
+    /// The number of bytes of the journal that cover all that it has seen.
     pub(crate) position: u64,
-    /// It is away while a command is done.
+    /// The pass. It is missing while a command is done.
     pub(crate) pass: Option<Pass<V>>,
 }
 
 impl<V: Kept> Clerk<V> {
-    /// Its pass, which is away until it is put back.
+    /// Takes its pass, which is missing until it is put back.
     pub(crate) fn take_pass(&mut self) -> Pass<V>
         requires { IsSome self.old.pass }
         ensures taken { self.old.pass ≡ Some result }
@@ -29,8 +29,8 @@ impl<V: Kept> Clerk<V> {
         pass
     }
 
-    /// Returns how many bytes, of those that the office's writer took since the office was made, have to be durable
-    /// so that all is that the clerk has seen.
+    /// Returns how many bytes, of those that the office's writer took since the office was made, have to be durable so
+    /// that all that the clerk has seen is durable.
     pub fn position(&self) -> u64
         ensures { result ≡ self.now.position }
     {

@@ -168,7 +168,7 @@ impl<V: Serving> OfficeOf<V> {
         self.tell(rt, clerk, moment, &Command::Tick)
     }
 
-    /// Takes down what a member tells of itself.
+    /// Records what a member reports of itself.
     pub fn report<R: Wait>(
         &self,
         rt: &R,
@@ -229,7 +229,7 @@ impl<V: Serving> OfficeOf<V> {
         self.tell(rt, clerk, moment, &Command::Renew { action, limit })
     }
 
-    /// Tells the status of an action, at any moment.
+    /// Returns the status of an action, at any moment.
     pub fn status<R: Wait>(
         &self,
         rt: &R,
@@ -248,7 +248,7 @@ impl<V: Serving> OfficeOf<V> {
         self.tell(rt, clerk, 0, &Command::Status { action })
     }
 
-    /// Tells the status of a member, at any moment.
+    /// Returns the status of a member, at any moment.
     pub fn member_status<R: Wait>(
         &self,
         rt: &R,
@@ -267,7 +267,7 @@ impl<V: Serving> OfficeOf<V> {
         self.tell(rt, clerk, 0, &Command::MemberStatus { member })
     }
 
-    /// Asks a member for something that is due, if anything is: the errand carries the request, and has to be spent.
+    /// Writes the next ask, if one is due, and returns its errand, which carries the request and has to be spent.
     pub fn next_ask<R: Wait>(
         &self,
         rt: &R,
@@ -287,7 +287,7 @@ impl<V: Serving> OfficeOf<V> {
         Ok(errand)
     }
 
-    /// Takes down what came of an ask. Where that is refused the errand comes back.
+    /// Records the outcome of an ask. If that is refused, returns the errand.
     pub fn record<R: Wait>(
         &self,
         rt: &R,

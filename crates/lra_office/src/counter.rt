@@ -1,4 +1,4 @@
-//! An office as counters see it: whose it is, and orders of its clerks.
+//! An office as counters see it: its coordinator's instance and base, and orders of its clerks.
 
 ghost use Rattle.std.specs.Prelude.{◌≡◌};
 ghost use Rattle.lra_office.specs.Clerks.{clerk_view, IsClerkOf, sight_of};
@@ -23,14 +23,14 @@ fn fault_of(refusal: OfficeRefusal) -> CounterFault
 }
 
 impl<V: Serving> OfficeOf<V> {
-    /// The instance of its coordinator.
+    /// Returns the instance of its coordinator.
     pub fn instance(&self) -> Instance
         ensures { result ≡ self.now.instance }
     {
         self.instance
     }
 
-    /// The base of its coordinator's identifiers.
+    /// Returns the base of its coordinator's identifiers.
     pub fn base(&self) -> &Base
         ensures { result.now ≡ self.now.base }
     {

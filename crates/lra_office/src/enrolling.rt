@@ -21,7 +21,7 @@ use lra_core::Command;
 use lra_ticket::Pass;
 use std::sync::Wait;
 
-/// The number that a new clerk is told.
+/// Returns a new clerk's number, from the answer to its enrolment.
 pub(crate) fn told_number(told: Told) -> u32
     requires { (n : ℕ) × (told ≡ ToldClerk n) }
     ensures { told ≡ ToldClerk result }
@@ -63,7 +63,7 @@ impl<V: Serving> OfficeOf<V> {
         }
     }
 
-    /// Enrols another clerk beside one that is lent, which stays as it is, whether that is refused or not.
+    /// Enrols another clerk by one that is lent, which stays as it is, whether the enrolment is refused or not.
     pub fn enrol_beside<R: Wait>(
         &self,
         rt: &R,

@@ -15,7 +15,7 @@ pub enum StartFault {
     Memory,
 }
 
-/// Why a journal isn't gone on from.
+/// Why an office can't go on from a journal.
 #[derive(Clone, Copy, Debug, PartialEq, Eq, Error)]
 pub enum ReopenFault {
     /// It isn't sound: the first line at fault, and the first rule that it breaks.

@@ -14,7 +14,7 @@ use crate::serving::Serving;
 use lra_ticket::Pass;
 
 impl<V: Serving> OfficeOf<V> {
-    /// A second pass, for a clerk to be enrolled by: it has seen as much as the clerk.
+    /// Makes a second pass, by which a clerk can be enrolled: it has seen as much as the clerk.
     pub fn split(&self, clerk: Clerk<V>) -> (Clerk<V>, Pass<V>)
         requires { IsClerkOf self.now.lock V.covers clerk }
         ensures clerk { IsClerkOf self.now.lock V.covers result.0 }
@@ -42,8 +42,8 @@ impl<V: Serving> OfficeOf<V> {
         )
     }
 
-    /// Lets two clerks compare what they have seen: the history of one begins that of the other. The second one's
-    /// position is the greatest, which covers all, until it is answered again.
+    /// Compares what two clerks have seen: the history of one begins that of the other. The second one's position is
+    /// the greatest, which covers all, until its next answer.
     pub fn meet(&self, first: &mut Clerk<V>, second: &mut Clerk<V>)
         requires first { IsClerkOf self.now.lock V.covers first.old }
         requires second { IsClerkOf self.now.lock V.covers second.old }
@@ -68,7 +68,7 @@ impl<V: Serving> OfficeOf<V> {
     }
 
     /// Ends a clerk: the other one has then seen what either had. Its position is the greatest, which covers all, until
-    /// it is answered again.
+    /// its next answer.
     pub fn retire(&self, clerk: &mut Clerk<V>, second: Clerk<V>)
         requires clerk { IsClerkOf self.now.lock V.covers clerk.old }
         requires second { IsClerkOf self.now.lock V.covers second }
@@ -91,7 +91,7 @@ impl<V: Serving> OfficeOf<V> {
         clerk.position = u64::MAX;
     }
 
-    /// Ends the office, if no one else holds its lock or waits for it, and gives what it kept.
+    /// Ends the office, if no other caller holds its lock or waits for it, and returns what it kept.
     pub fn into_kept(self, clerk: Clerk<V>) -> Result<V, (OfficeOf<V>, Clerk<V>)>
         requires { IsClerkOf self.lock V.covers clerk }
         ensures value { IfOk result (λ x. Suits V.origin V.history V.lawful (clerk_view clerk) x) }

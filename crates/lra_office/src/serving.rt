@@ -6,7 +6,7 @@ use lra_commands::{Known, Query, Refusal};
 use lra_core::{Command, Committed};
 use lra_ticket::Kept;
 
-/// A kept value at which the commands of clerks are done, and queries are told.
+/// A kept value that does the commands of clerks, and answers queries.
 pub trait Serving: Kept {
     ghost use Rattle.std.specs.Prelude.{ℕ, ◌-◌, ◌^◌, Bool, IsTrue, IfErr};
     ghost use Rattle.lra_model.specs.History.{History};
@@ -26,8 +26,8 @@ pub trait Serving: Kept {
     // Whether so many bytes of the journal, from the first that was written behind an origin, tell of all of a history.
     ghost covers: { Self.Origin → History → ℕ → Bool };
 
-    /// Does a command of a clerk, and gives what it is told, or changes nothing. That its scribe has stopped it says
-    /// only where that has.
+    /// Does a command of a clerk, and returns its answer, or changes nothing. It returns `Stopped` only if its scribe
+    /// has stopped.
     fn serve(&mut self, by: u32, moment: u64, command: &Command<'_>) -> Result<Committed, Refusal>
         requires suited { is_suited command.now ≡ true }
         requires lawful { Self.lawful self.old }
@@ -41,11 +41,11 @@ pub trait Serving: Kept {
         ensures stays { has_stopped self.old ≡ true
             → (has_stopped self.new ≡ true) × (Self.history self.new ≡ Self.history self.old) };
 
-    /// Returns what a query is told of its history.
+    /// Returns the result of a query of its history.
     fn query(&self, query: Query) -> Result<Known, Refusal>
         ensures { result ≡ tell (setting (Self.origin self.now)).limits (Self.history self.now) query };
 
-    /// The first moment at which something is due or late in its history, in milliseconds, where there is any.
+    /// Returns the first moment at which something is due or late in its history, in milliseconds, if there is one.
     fn next_moment(&self) -> Option<u64>
         ensures { IsFirstMoment (setting (Self.origin self.now)).limits (Self.history self.now) result };
 

@@ -14,8 +14,8 @@ use lra_scribe::Scribe;
 use std::io::Write;
 
 impl<W: Write + Drop> Office<W> {
-    /// Ends the office, if no one else holds its lock or waits for it, and gives the coordinator and the scribe of its
-    /// journal.
+    /// Ends the office, if no other caller holds its lock or waits for it, and returns the coordinator and the scribe
+    /// of its journal.
     pub fn shut(
         self,
         clerk: Clerk<Desk<W>>,

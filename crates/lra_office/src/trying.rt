@@ -20,7 +20,7 @@ use lra_commands::Told;
 use lra_core::{Command, Committed};
 use lra_ticket::{Pass, TryFault};
 
-/// A fault of the lock, as one of a command.
+/// Returns a fault of the lock as one of a command.
 fn refusal_of(fault: TryFault) -> TryRefusal
     ensures { result ≡ refusal_of fault }
 {
@@ -30,7 +30,7 @@ fn refusal_of(fault: TryFault) -> TryRefusal
     }
 }
 
-/// Returns what is told, and lets the errand go.
+/// Returns the answer, and discards the errand.
 pub(crate) fn told_alone(committed: Committed) -> Told
     ensures { result ≡ committed.told }
 {
@@ -97,7 +97,7 @@ impl<V: Serving> OfficeOf<V> {
         tried
     }
 
-    /// Tells the status of an action, if the lock is free.
+    /// Returns the status of an action, if the lock is free.
     pub fn try_status(&self, clerk: &mut Clerk<V>, action: u64) -> Result<Told, TryRefusal>
         requires { IsClerkOf self.now.lock V.covers clerk.old }
         ensures clerk { IsClerkOf self.now.lock V.covers clerk.new }

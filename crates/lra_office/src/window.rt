@@ -30,7 +30,7 @@ impl WhichLock for Brand {
     ghost lock = { record { words = 0; slots = 0; views_name = 0; atom = 0; block = 0; offset = 0; slot_names = [] } };
 }
 
-/// An office with one of its clerks: where orders are given as at a counter of one's own.
+/// An office with one of its clerks, which gives its orders there as at a counter of its own.
 pub struct Window<'a, V: Serving, R, L: WhichLock> {
     rt: &'a R,
     office: &'a OfficeOf<V>,
@@ -42,7 +42,7 @@ pub struct Window<'a, V: Serving, R, L: WhichLock> {
 }
 
 impl<'a, V: Serving, R, L: WhichLock> Window<'a, V, R, L> {
-    /// A window of an office, for a clerk of it.
+    /// Makes a window of an office, for a clerk of it.
     pub fn new(rt: &'a R, office: &'a OfficeOf<V>, clerk: Clerk<V>) -> Window<'a, V, R, L>
         requires there { IsClerkOf office.now.lock V.covers clerk }
         requires made { IsOfficeOf (V.setting (clerk_view clerk).origin) office.now }
@@ -57,7 +57,7 @@ impl<'a, V: Serving, R, L: WhichLock> Window<'a, V, R, L> {
         }
     }
 
-    /// Its clerk, with what that has seen by now.
+    /// Returns its clerk, with what that has seen by now.
     pub fn into_clerk(self) -> Clerk<V>
         ensures clerk { result ≡ self.entry.clerk }
         ensures there { IsClerkOf self.entry.office.now.lock V.covers result }
@@ -74,7 +74,7 @@ impl<'a, V: Serving, R, L: WhichLock> Window<'a, V, R, L> {
 }
 
 impl<V: Serving, R: Wait, L: WhichLock> Window<'_, V, R, L> {
-    /// Tells its clerk what that asks, as `Office::query` does.
+    /// Returns the result of its clerk's query, as `Office::query` does.
     pub fn query(&mut self, query: Query) -> Result<Known, OfficeRefusal>
         ensures number { self.new.clerk.number ≡ self.old.clerk.number }
         ensures known { IsQueried (V.setting (clerk_view self.old.clerk).origin) (clerk_view self.old.clerk) query

@@ -17,7 +17,7 @@ const MARK: u8 = 1;
 #[derive(Drop)]
 pub struct Packed {
     bytes: Vec<u8>,
-    /// Where what stands there of the second address begins, if anything does; and so on.
+    /// The place in the buffer where the second address begins, if it is there; and so on.
     complete: u32,
     status: u32,
     forget: u32,
@@ -59,7 +59,7 @@ fn size_of_all(uris: &Uris) -> usize {
         .saturating_add(size_of(&uris.after))
 }
 
-/// An address goes to the end of a buffer, if it is there.
+/// Adds an address to the end of a buffer, if it is there.
 fn add(bytes: &mut Vec<u8>, text: &Option<String>) -> Result<(), Memory>
     ensures items { OnOk result (bytes.new.items ≡ bytes.old.items ++ piece (text_of text.now)) }
     ensures text { IsText (text_of text.now) }
@@ -71,7 +71,7 @@ fn add(bytes: &mut Vec<u8>, text: &Option<String>) -> Result<(), Memory>
     Ok(())
 }
 
-/// The place at the end of a buffer.
+/// Returns the place at the end of a buffer, or `Memory` where that exceeds a u32.
 fn end_of(bytes: &Vec<u8>) -> Result<u32, Memory>
     ensures { IfOk result (λ end. end ≡ length bytes.now.items) }
 {
@@ -81,7 +81,7 @@ fn end_of(bytes: &Vec<u8>) -> Result<u32, Memory>
     }
 }
 
-/// The address of which something stands in a buffer from one place to another.
+/// Returns the address that a buffer has from one place to another, if the places differ.
 fn text_at(bytes: &[u8], begin: usize, end: usize) -> Option<&str>
     requires order { begin ≤ end }
     requires within { end ≤ length bytes.now }
@@ -95,7 +95,7 @@ fn text_at(bytes: &[u8], begin: usize, end: usize) -> Option<&str>
     }
 }
 
-/// Returns whether an address is that of a text, or both are absent.
+/// Returns whether two addresses are equal, or both are absent.
 fn is_same(left: Option<&str>, right: &Option<String>) -> bool
     ensures { result ≡ words.same_address (option_copied left.entry) (text_of right.now) }
 {
@@ -111,7 +111,7 @@ impl Packed {
     ghost use Rattle.std.specs.Option.{option_copied};
     ghost use Rattle.lra_model.specs.Joins as words;
 
-    /// A copy of addresses.
+    /// Copies five addresses into one buffer.
     pub fn of(alloc: Global, uris: &Uris) -> Result<Packed, Memory>
         ensures { IfOk result (λ packed. packed ≡ uris.now) }
     {
@@ -164,7 +164,7 @@ impl Packed {
         text_at(&self.bytes, self.after as usize, self.bytes.len())
     }
 
-    /// Returns whether these are the same five addresses.
+    /// Returns whether all five addresses are equal to these.
     pub fn is_same(&self, uris: &Uris) -> bool
         ensures { result ≡ words.same_addresses self.now uris.now }
     {

@@ -9,14 +9,14 @@ pub sourced : (source remaining : Option (List ℕ)) (P : List ℕ → Type 0) �
 sourced None remaining P same h = tt
 sourced (Some all) remaining P same h = subst (λ (o : Option (List ℕ)). IfSome o P) same h
 
--- what a run writes and answers
+-- what a run writes and returns
 pub sourced_status : {E : Type 0} (source remaining : Option (List ℕ)) (P : ℕ → List ℕ → Type 0) (r : Result ℕ E)
     → IfSome source (λ all. remaining ≡ Some all)
     → IfOk r (λ status. IfSome remaining (P status)) → IfOk r (λ status. IfSome source (P status))
 sourced_status source remaining P (Ok status) same h = sourced source remaining (P status) same h
 sourced_status source remaining P (Err e) same h = tt
 
--- what a run of that invocation writes and answers
+-- what a run of that invocation writes and returns
 pub sourced_ok : {E : Type 0} (v w : Invocation) (standard : Option (List ℕ)) (named : List ℕ → Option (List ℕ))
     (remaining before after : Option (List ℕ)) (r : Result ℕ E) → v ≡ w
     → IfSome (input_bytes standard named w) (λ all. remaining ≡ Some all)

@@ -1,4 +1,4 @@
-//! Which run the words of a command line ask for, and of which input.
+//! The run that the words of a command line ask for, and its input.
 
 ghost use Rattle.std.specs.Prelude.{IfOk, IfErr, IfSome};
 ghost use Rattle.lra_audits.specs.Faults.{NamesNoLine, IsMeasured, LeavesOutput};
@@ -12,7 +12,7 @@ use lra_audits::{RunFault, audit_run};
 use std::alloc::Global;
 use std::io::Write;
 
-/// Carries out an invocation, and answers the program's status.
+/// Carries out an invocation, and returns the program's status.
 pub fn run<S: Sources, W: Write>(
     alloc: Global,
     sources: &S,

@@ -1,4 +1,4 @@
-//! The texts in which a program names, on standard error, the input of a run, and the way to what is sound of it.
+//! The texts on standard error that name the input of a run, and the command that salvages it.
 
 ghost use Rattle.std.specs.Prelude.{◌≡◌, IfOk, string_bytes};
 ghost use Rattle.lra_reports.specs.Invoked.{input_name};
@@ -8,7 +8,7 @@ use crate::words::Invocation;
 use lra_auditor::Memory;
 use std::alloc::Global;
 
-/// The name of the input of an invocation: its file's, or `-` for standard input.
+/// Returns the name of the input of an invocation: its file's, or `-` for standard input.
 pub fn input_name<'a>(invocation: Invocation<'a>) -> &'a str
     ensures { result.now ≡ input_name invocation.entry }
 {
@@ -19,7 +19,7 @@ pub fn input_name<'a>(invocation: Invocation<'a>) -> &'a str
     }
 }
 
-/// The line on standard error that names the way to what is sound of a file, where its journal as a whole isn't.
+/// Returns the line on standard error that names the command to salvage a file, where its journal isn't sound.
 pub fn hint_line(alloc: Global, file: &str) -> Result<String, Memory>
     ensures { IfOk result (λ text. string_bytes text ≡ hint_line file.now) }
 {

@@ -7,7 +7,7 @@ ghost use Rattle.lra_reports.specs.Paging.{IsPaged};
 use lra_audits::{RunFault, put};
 use std::io::Write;
 
-/// From how many bytes on a page is written.
+/// The number of bytes from which on a page is written.
 const PAGE: usize = 65_536;
 
 /// Adds a line to a page, and writes the page once it is full.

@@ -1,4 +1,4 @@
-//! The program on a system, which answers a question on standard output, and by its status.
+//! The program on a system, which answers a question on standard output and by its status.
 
 ghost use Rattle.std.specs.Prelude.{◌≡◌, IfSome, IfNone};
 
@@ -39,7 +39,7 @@ impl<R: Files + Input> Sources for System<'_, R> {
     }
 }
 
-/// Runs on an input, and answers the program's status.
+/// Carries out an invocation, and returns the program's status.
 fn answer_run<R: AllocGlobal + Files + Input + Print + Eprint>(
     rt: &R,
     invocation: Invocation<'_>,
@@ -48,8 +48,8 @@ fn answer_run<R: AllocGlobal + Files + Input + Print + Eprint>(
     settle(rt, outcome, input_name(invocation))
 }
 
-/// Prints the line that a salvage tells, if it does, on standard error. The answer is the program's status: 1 where
-/// something was left out, else 0.
+/// Prints the line that a salvage returned, if any, on standard error. Returns the program's status: 1 where something
+/// was left out, else 0.
 fn tell_end<R: Eprint>(rt: &R, told: Option<String>) -> u8
     ensures all { IfNone told (result ≡ 0) }
     ensures front { IfSome told (λ _. result ≡ 1) }
@@ -63,19 +63,19 @@ fn tell_end<R: Eprint>(rt: &R, told: Option<String>) -> u8
     }
 }
 
-/// Prints what is sound of a file's journal, and answers the program's status.
+/// Prints what is sound of a file's journal, and returns the program's status.
 fn answer_salvage<R: AllocGlobal + Files + Input + Print + Eprint>(rt: &R, file: &str) -> u8 {
     let outcome = salvage_file(rt.alloc(), &System { rt }, file, &mut io::writer(rt));
     settle(rt, outcome.map(|told| tell_end(rt, told)), file)
 }
 
-/// Prints a text, and answers the program's status.
+/// Prints a text, and returns the program's status.
 fn answer_text<R: AllocGlobal + Print + Eprint>(rt: &R, text: &str) -> u8 {
     let outcome = put(&mut io::writer(rt), text.as_bytes());
     settle(rt, outcome.map(|_| 0), "-")
 }
 
-/// Answers a question on standard output, and gives the program's status.
+/// Answers a question on standard output, and returns the program's status.
 pub fn answer_question<R: AllocGlobal + Files + Input + Print + Eprint>(
     rt: &R,
     question: Question<'_>,

@@ -90,7 +90,7 @@ fn put_listing<W: Write>(alloc: Global, writer: &mut W, listing: &Listing) -> Re
     put(writer, &page)
 }
 
-/// Writes what is printed of an account.
+/// Writes the text that is printed of an account.
 fn put_account<W: Write>(alloc: Global, writer: &mut W, account: &Account) -> Result<(), RunFault>
     ensures written { OnOk result (Appends (W.contents writer.old) (W.contents writer.new) (account_text account.now)) }
     ensures fault { IfErr result IsOfOutput }
@@ -104,7 +104,7 @@ fn put_account<W: Write>(alloc: Global, writer: &mut W, account: &Account) -> Re
     }
 }
 
-/// The program's status for an account: 0 for a sound journal, else 1.
+/// Returns the program's status for an account: 0 for a sound journal, else 1.
 fn status_of(account: &Account) -> u8
     ensures { result ≡ account_status account.now }
 {
@@ -114,7 +114,7 @@ fn status_of(account: &Account) -> u8
     }
 }
 
-/// Lists the actions and the members of the journal that the reader gives, or writes its first fault. The answer is the
+/// Lists the actions and the members of the journal that the reader gives, or writes its first fault. Returns the
 /// program's status: 0 for a sound journal, else 1.
 pub fn show_run<R: Read + Drop, W: Write>(
     alloc: Global,

@@ -1,4 +1,4 @@
-//! Where the inputs of runs come from.
+//! The sources of the inputs of runs.
 
 use lra_audits::RunFault;
 use std::io::Read;
@@ -17,7 +17,7 @@ pub trait Sources {
     // The bytes of the file of a name, where they are known.
     ghost named: { Self → List ℕ → Option (List ℕ) } = { λ _ _. None };
 
-    /// A reader of standard input.
+    /// Returns a reader of standard input.
     fn input(&self) -> Self::Input
         ensures bytes { IfSome (standard self.now) (λ all. Self.Input.remaining result ≡ Some all) };
 
@@ -27,8 +27,8 @@ pub trait Sources {
             (λ all. Self.File.remaining file ≡ Some all)) }
         ensures err { IfErr result (λ fault. fault ≡ RunFault.Read) };
 
-    /// Opens it beside that, to be read a second time: none where what stands behind the name can be read once alone,
-    /// as a pipe.
+    /// Opens the file of this name once more, to be read a second time. Returns none where that can't be, as with a
+    /// pipe.
     fn open_again(&self, name: &str) -> Option<Self::File>
         ensures bytes { IfSome result (λ file. IfSome (named self.now name.now)
             (λ all. Self.File.remaining file ≡ Some all)) };

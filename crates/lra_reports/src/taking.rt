@@ -1,4 +1,4 @@
-//! The takers that an input is given to beside an auditor, piece by piece.
+//! The takers of an input besides an auditor. The input comes piece by piece.
 
 ghost use Rattle.std.specs.Prelude.{◌≡◌, ◌+◌, ◌<◌, ◌^◌, ◌++◌, length, OnOk, IfErr};
 
@@ -6,7 +6,7 @@ use lra_auditor::Auditor;
 use lra_audits::{RunFault, Taker, put};
 use std::io::Write;
 
-/// The bytes are kept.
+/// A taker that keeps the bytes.
 #[derive(Drop)]
 pub(crate) struct Kept {
     pub(crate) bytes: Vec<u8>,
@@ -31,7 +31,7 @@ impl Taker for Kept {
     }
 }
 
-/// The bytes are fed to an auditor, and written.
+/// A taker that feeds the bytes to an auditor, and writes them.
 #[derive(Drop)]
 pub(crate) struct Copying<'a, W> {
     pub(crate) auditor: &'a mut Auditor,

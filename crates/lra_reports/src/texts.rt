@@ -1,4 +1,4 @@
-//! The texts that the programs print of themselves.
+//! The texts that the programs print about themselves.
 
 /// The calls of the programs.
 pub const HELP: &str = "\
@@ -13,5 +13,5 @@ lra --help                        prints these calls
 lra --version                     prints the version, and what proved it
 ";
 
-/// Their version, and the identity of the logic that their proofs are checked by, which kits of several numbers share.
+/// The programs' version, and the identity of the logic that checks their proofs. Kits of several numbers share it.
 pub const VERSION: &str = "lra 0.1.0\nrattle logic dac8208d650f15bf\n";

@@ -24,17 +24,17 @@ pub enum Invocation<'a> {
 /// The question to a program that reads and reports.
 #[derive(Clone, Copy, Debug)]
 pub enum Question<'a> {
-    /// The answer of a run on an input.
+    /// The result of a run on an input.
     Run(Invocation<'a>),
-    /// The sound front of a file's journal.
+    /// The longest sound prefix of a file's journal.
     Salvage { file: &'a str },
     /// The calls of the programs.
     Help,
-    /// Which version it is.
+    /// The version of the programs.
     Version,
 }
 
-/// The run on a file that a verb names.
+/// Returns the run on a file that a verb names.
 fn invocation_on<'a>(verb: &str, file: &'a str) -> Result<Invocation<'a>, Usage>
     ensures invocation { IfOk result (IsInvocation (verb.now ∷ file.now ∷ [])) }
     ensures usage { IfErr result (λ _. (invocation : Invocation) → IsInvocation (verb.now ∷ file.now ∷ []) invocation

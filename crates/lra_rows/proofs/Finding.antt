@@ -1,4 +1,4 @@
--- What a sheet has of a number is what is found of the history.
+-- What a snapshot has of a number is what is found of the history.
 use Rattle.std.proofs.Common.{◌≡◌, ℕ, Bool, true, false, List, [], map, Option, Some, None, refl, sym, ap, ◌∙◌, cond}
 use Rattle.std.proofs.Common.{◌∷◌, length, ne_eqb, arith}
 use Rattle.std.specs.Prelude.{◌&&◌, nat_lt, is_some, option_map, unwrap_or}

@@ -21,7 +21,7 @@ slice_set-set (y ∷ rows) zero x r e = ap (λ z. z ∷ rows) (sym (some e))
     some h = cc
 slice_set-set (y ∷ rows) (suc k) x r e = ap (λ zs. y ∷ zs) (slice_set-set rows k x r e)
 
--- a row that another stands in for, which a change takes back to it
+-- a row that was replaced, which a change makes of the new one again
 pub changed_back_at : {R : Type 0} (g : R → R) (rows : List R) (k : ℕ) (x r : R) → slice_get rows k ≡ Some x → g r ≡ x
     → change_row g (suc k) (slice_set rows k r) ≡ rows
 changed_back_at g rows k x r there e = rw (slice_get-set_same rows k x r there, e) (slice_set-set rows k x r there)

@@ -1,4 +1,4 @@
--- How members are reached, with whether there are places for their repeats.
+-- The endpoints of members, with whether there are places for their repeats.
 use Rattle.std.proofs.Common.{◌≡◌, inl, inr, ℕ, zero, suc, Bool, true, false, List, [], ◌∷◌, ◌++◌, Option, Some, None}
 use Rattle.std.proofs.Common.{refl, sym, ap, ◌∙◌, IfSome, slice_get, slice_set}
 use Rattle.std.specs.Prelude.{cond, nat_lt, option_map}

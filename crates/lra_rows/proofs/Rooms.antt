@@ -1,4 +1,4 @@
--- Where the actions stand, with what their lists hold, and the room that there is for one more entry.
+-- The depths and lists of the actions, with the room that there is for one more entry.
 use Rattle.std.proofs.Common.{◌≡◌, inl, inr, ℕ, zero, suc, ◌≤◌, ◌-◌, ◌^◌, Bool, true, false, List, [], ◌∷◌, ◌++◌}
 use Rattle.std.proofs.Common.{length, take, map, Option, Some, None, refl, sym, ap, ◌∙◌, IfSome, slice_get, slice_set}
 use Rattle.std.specs.Prelude.{nat_lt, cond, option_map}
@@ -109,7 +109,7 @@ pub depth_bounded : (n : ℕ) (rows : List Nested) (a : ℕ) (x : Nested) → ro
     → IfSome (row_at (nests_in rows) a) (DeepTo n) → x.nest.depth ≤ n
 depth_bounded n rows a x there h = (rw (row_at-map (λ (y : Nested). y.nest) rows a, there) at h)
 
--- whether a list takes one more, where the actions stand and what their lists hold are read apart
+-- whether a list takes one more, where the actions' lists and what these hold are read apart
 abbrev pub apart : (Nest → List ℕ) → (NestCapacity → ℕ) → List Nested → ℕ → Bool
 apart list capacity rows a = option_map_or (λ (n : Nest). option_map_or
     (λ (c : NestCapacity). takes_one (list n) (capacity c)) (row_at (capacities_in rows) a) true)
@@ -180,7 +180,7 @@ pub parent_place : (rows : List Nested) (parent : Option ℕ) → option_map_or
 parent_place rows None h = refl
 parent_place rows (Some b) h = sym (child_place rows b) ∙ h
 
--- as many stand where the actions do
+-- a list of depths and lists takes one more just where that of the rows does
 pub takes_nest : (rows : List Nested) (n : ℕ) → takes_one (nests_in rows) n ≡ takes_one rows n
 takes_nest rows n = ap (λ k. nat_lt k n) (length-map rows (λ (x : Nested). x.nest))
 
@@ -243,7 +243,7 @@ capacities-without l a rows = map-change_row (λ (n : Nested). n.capacity) (with
 
 -- ---- room for a deed
 
--- what one could do, the other can
+-- the new rows have room for what the old had room for
 pub room_kept : (old new : Rowed) → new.sheet ≡ old.sheet → Keeps old new → (d : Deed) → deed_has_room d old ≡ true
     → deed_has_room d new ≡ true
 room_kept old new same k (Start a parent limit) h =
@@ -275,7 +275,7 @@ room_kept old new same k (Reply n o) h = of_outcome (is_undecided o) h
         (row_at s.asks n) true) same ∙ of_ask (row_at old.sheet.asks n) g
 room_kept old new same k d h = refl
 
--- so for an entry, where there are as many as before
+-- so for an entry, where there are as many entries as before
 pub entry_kept : (old new : Rowed) → new.sheet ≡ old.sheet → Keeps old new → (e : Entry) → has_room e old ≡ true
     → has_room e new ≡ true
 entry_kept old new same k e h = let x = both _ _ h in

@@ -1,4 +1,4 @@
--- The sheet of no entries; and no count of a sheet is more than its entries, so that there is room for one more.
+-- The snapshot of no entries; and no count of a snapshot is more than its entries, so that there is room for one more.
 use Rattle.std.proofs.Common.{◌≡◌, ℕ, zero, suc, ◌+◌, ◌<◌, ◌≤◌, ◌^◌, ◌==◌, Bool, true, false, List, [], ◌∷◌, ◌++◌}
 use Rattle.std.proofs.Common.{length, map, Option, Some, None, refl, sym, ap, arith, subst, IfSome, count_by}
 use Rattle.std.specs.Prelude.{◌&&◌}
@@ -131,7 +131,7 @@ rows_bounded {R = R} P g ns numbered each n = decide (is_among ns n) refl
     decide true h = subst (λ (o : Option R). IfSome o P) (sym (row_there g ns n numbered h)) (each n h)
     decide false h = subst (λ (o : Option R). IfSome o P) (sym (row_absent g ns n numbered h)) tt
 
--- there is room for one more entry in each count of a sheet that stands for a history
+-- there is room for one more entry in each count of a snapshot that stands for a history
 pub CanCount-from_StandsFor : (s : Sheet) (J : History) → StandsFor s J → s.entries < 2 ^ 63 → CanCount s
 CanCount-from_StandsFor s J h few = subst CanCount (sym h.sheet)
     (of_history (let e = ap (λ (x : Sheet). x.entries) h.sheet in omega arith))
@@ -163,7 +163,7 @@ CanCount-from_StandsFor s J h few = subst CanCount (sym h.sheet)
         few_repeats : (p : ℕ) (stage : AskKind) → repeat_count J p stage ≤ 2 ^ 63
         few_repeats p stage = let r = repeats-le J p stage in omega arith
 
--- one that enrols or asks has the next number
+-- an entry that enrols a clerk or makes an ask has the next number
 pub TakesNextNumber-from_Follows : (s : Sheet) (e : Entry) → Follows s e → TakesNextNumber s.state e.deed e.by
 TakesNextNumber-from_Follows s e h = subst (λ (x : Sheet). TakesNextNumber x.state e.deed e.by) (sym h.stands.sheet)
     (of_deed e.deed (told h.stands.version h.stands.is_address h.history e.by e.moment e.deed

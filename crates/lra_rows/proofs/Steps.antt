@@ -1,4 +1,4 @@
--- What takes an entry back.
+-- What undoes an entry.
 use Rattle.std.proofs.Common.{◌≡◌, ℕ, Bool, true, false, List, [], ◌∷◌, ◌++◌, take, Option, Some, None, length, suc}
 use Rattle.std.proofs.Common.{refl, ap, ◌∙◌, arith, subst, length-append}
 use Rattle.std.proofs.Math.Seq.{take-append_seam}
@@ -85,7 +85,7 @@ joined_back p a t nests =
     (change_row (with_member_number p) a nests))
     ∙ changed_back (with_member_number p) without_member (member_back p) a nests
 
--- what takes back a member's change takes back the ask that came before it
+-- what undoes a member's change undoes the ask that came before it
 pub asked_back : (w : Writes) (old mid new : Rowed) (m n : ℕ) (x : Asked) → IsOfMember w → Undoes w new mid → mid
     ≡ record old {
       sheet = record old.sheet {

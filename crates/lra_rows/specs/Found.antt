@@ -31,7 +31,7 @@ found_action J a =
     None
 
 -- a member, if it is there: its action, its status, the outcomes that decide it both ways, the ask of it that is
--- outstanding, what it wants, how often it was asked for that in vain, and when it last was
+-- outstanding, what it wants, the number of attempts at that with no final answer, and the moment of the last of them
 abbrev pub found_member : History → ℕ → Option MemberRow
 found_member J p =
     cond (is_among (members J) p)
@@ -51,7 +51,7 @@ found_member J p =
 abbrev pub found_addresses : History → ℕ → Option Addresses
 found_addresses J p = cond (is_among (members J) p) (Some (addresses_of J p)) None
 
--- an ask, if it was made: of whom, for what, which way it goes, and whether it is outstanding
+-- an ask, if it was made: its member, its kind, its direction, and whether it is outstanding
 abbrev pub found_ask : History → ℕ → Option AskRow
 found_ask J n = option_map
     (λ (x : Asked). record {

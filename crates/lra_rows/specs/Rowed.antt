@@ -1,4 +1,4 @@
--- What rows are: the sheet of a history, and how much each list takes with no more memory.
+-- What rows are: the snapshot of a history, and how much each list takes with no more memory.
 use Rattle.std.specs.Prelude.{ℕ, ◌^◌, ◌&&◌, nat_lt, Bool, true, false, cond, List, [], ◌∷◌, ◌++◌, length, Option, Some}
 use Rattle.std.specs.Prelude.{None}
 use Rattle.std.specs.Option.{option_map_or}
@@ -32,7 +32,7 @@ pub record Capacity : Type 0 where
   pub lists : List NestCapacity
   pub ready : List Bool
 
--- rows: the sheet that they have, and what they hold with no more memory (this project's choice)
+-- rows: their snapshot, and what they hold with no more memory (this project's choice)
 pub record Rowed : Type 0 where
   pub sheet : Sheet
   pub capacity : Capacity
@@ -48,7 +48,7 @@ capacity_after d c = c
 abbrev pub takes_one : {X : Type 0} → List X → ℕ → Bool
 takes_one xs capacity = nat_lt (length xs) capacity
 
--- whether a list of an action does, where the action is there (this project's choice)
+-- whether a list of an action takes one more, where the action is there (this project's choice)
 abbrev pub list_takes_one : (Nest → List ℕ) → (NestCapacity → ℕ) → Rowed → ℕ → Bool
 list_takes_one list capacity r a =
     option_map_or (λ (n : Nest). option_map_or (λ (c : NestCapacity). takes_one (list n) (capacity c))
@@ -58,11 +58,11 @@ list_takes_one list capacity r a =
 abbrev pub takes_child : Rowed → ℕ → Bool
 takes_child r a = list_takes_one (λ (n : Nest). n.children) (λ (c : NestCapacity). c.children) r a
 
--- whether an action's list of members does (this project's choice)
+-- whether an action's list of members takes one more (this project's choice)
 abbrev pub takes_member : Rowed → ℕ → Bool
 takes_member r a = list_takes_one (λ (n : Nest). n.members) (λ (c : NestCapacity). c.members) r a
 
--- whether the list of the members of all that stand in an action does (this project's choice)
+-- whether the list of the members of an outermost action and of all below it takes one more (this project's choice)
 abbrev pub takes_under : Rowed → ℕ → Bool
 takes_under r a = list_takes_one (λ (n : Nest). n.under) (λ (c : NestCapacity). c.under) r a
 
@@ -84,8 +84,8 @@ deed_has_room (Reply n o) r =
     true) true
 deed_has_room _ r = true
 
--- whether an entry can be carried out with no memory: each list that it adds to takes one more, and so do the counts,
--- which are less than 2^64 (this project's choice)
+-- whether an entry can be applied with no memory: each list that it adds to takes one more, and so do the counts, as
+-- there are less than 2^63 entries (this project's choice)
 abbrev pub has_room : Entry → Rowed → Bool
 has_room e r = nat_lt r.sheet.entries (2 ^ 63) && deed_has_room e.deed r
 

@@ -1,4 +1,4 @@
--- What an entry wrote over and added, and how that takes it back.
+-- What an entry wrote over and added, and how that undoes it.
 use Rattle.std.specs.Prelude.{ℕ, ◌-◌, Bool, cond, List, length, take, Option, Some, None, option_map}
 use Rattle.std.specs.Option.{option_map_or}
 use Rattle.lra_model.specs.declared.asks.AskKind.{AskKind}
@@ -49,19 +49,19 @@ with_counts c r = record r {
   };
 }
 
--- a list without its last one
+-- a list without its last item
 abbrev pub without_last : {X : Type 0} → List X → List X
 without_last xs = take (length xs - 1) xs
 
--- an action's place without its last child
+-- an action's lists without its last child
 abbrev pub without_child : Nest → Nest
 without_child n = record n { children = without_last n.children }
 
--- an action's place without its last member
+-- an action's lists without its last member
 abbrev pub without_member : Nest → Nest
 without_member n = record n { members = without_last n.members }
 
--- an action's place without the last member of all that stand in it
+-- an action's lists without the last of the members of it and of all below it
 abbrev pub without_under : Nest → Nest
 without_under n = record n { under = without_last n.under }
 

@@ -9,7 +9,7 @@ use std::marker::Model;
 /// The numbers of members that are asked are less than this.
 pub(crate) const NARROW: u64 = 1 << 32;
 
-/// An ask, but for its number, which its place tells.
+/// An ask, but for its number, which its place gives.
 #[derive(Clone, Copy)]
 pub(crate) struct Unnumbered {
     member: u32,
@@ -46,7 +46,7 @@ impl Asks {
         }
     }
 
-    /// The ask of a number, if it is there.
+    /// Returns the ask of a number, if it is there.
     pub(crate) fn at(&self, number: u64) -> Option<Asked>
         ensures { result ≡ row_at self.now.items number }
     {

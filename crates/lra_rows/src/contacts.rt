@@ -1,4 +1,4 @@
-//! The contacts of members, by their numbers.
+//! The endpoints of members, by their numbers.
 
 ghost use Rattle.std.specs.Prelude.{◌≡◌, ℕ, ◌^◌, true, length, option_map, IfSome, OnOk, vec_capacity};
 ghost use Rattle.std.specs.Option.{option_map_or};
@@ -17,7 +17,7 @@ use lra_packed::Packed;
 use std::alloc::Global;
 use std::marker::Model;
 
-/// A member answers an ask.
+/// Counts the outcome of an ask in the repeats of its member. Returns those as they were, if the member is there.
 fn answer(rows: &mut Vec<Contact>, moment: u64, outcome: Outcome, asked: Asked) -> Option<Repeated>
     requires few { (p : ℕ) → IfSome (row_at (contacts_in rows.old.items) p) (RepeatsTo (2 ^ 63)) }
     requires ready { is_undecided outcome ≡ true → is_ready_at (ready_in rows.old.items) asked.member ≡ true }
@@ -76,7 +76,7 @@ fn make_ready(alloc: Global, rows: &mut Vec<Contact>, number: u64) -> Result<(),
     }
 }
 
-/// Removes the last one, and gives its addresses.
+/// Removes the last one, if there is one, and returns its addresses.
 fn remove_last(rows: &mut Vec<Contact>) -> Option<Packed>
     ensures items { rows.new.items ≡ without_last rows.old.items }
     ensures uris { result ≡ option_map (λ (r : Reached). r.contact.addresses)
@@ -89,7 +89,7 @@ fn remove_last(rows: &mut Vec<Contact>) -> Option<Packed>
     }
 }
 
-/// The contact of each member, in the order of their numbers, which are counted from 1.
+/// The endpoint of each member, in the order of their numbers, which are counted from 1.
 #[derive(Drop)]
 pub(crate) struct Contacts {
     rows: Vec<Contact>,
@@ -129,7 +129,7 @@ impl Contacts {
         }
     }
 
-    /// The addresses of a member, if it is there.
+    /// Returns the addresses of a member, if it is there.
     pub(crate) fn addresses(&self, number: u64) -> Option<&Packed>
         ensures { option_copied result ≡ option_map (λ (c : sheets.Contact). c.addresses)
             (row_at self.now.items number) }
@@ -140,7 +140,7 @@ impl Contacts {
         }
     }
 
-    /// The repeats of a member in a stage.
+    /// Returns the repeats of a member in a stage; none where the member isn't there.
     pub(crate) fn repeats(&self, number: u64, stage: AskKind) -> Repeats
         ensures { result ≡ option_map_or (repeats_at stage) (row_at self.now.items number) sheets.no_repeats }
     {
@@ -198,7 +198,7 @@ impl Contacts {
         add(&mut self.rows, Contact::new(uris));
     }
 
-    /// Removes the last member, if there is one, and gives its addresses.
+    /// Removes the last member, if there is one, and returns its addresses.
     pub(crate) fn remove_last(&mut self) -> Option<Packed>
         ensures items { self.new.items ≡ without_last self.old.items }
         ensures uris { result ≡ option_map (λ (c : sheets.Contact). c.addresses)
@@ -209,7 +209,8 @@ impl Contacts {
         remove_last(&mut self.rows)
     }
 
-    /// A member answers an ask, for whose repeats there is a place where they change.
+    /// Counts the outcome of an ask in the repeats of its member, for which there is a place where they change. Returns
+    /// those as they were, if the member is there.
     pub(crate) fn answer(&mut self, moment: u64, outcome: Outcome, asked: Asked) -> Option<Repeated>
         requires few { (p : ℕ) → IfSome (row_at self.old.items p) (RepeatsTo (2 ^ 63)) }
         requires ready { is_undecided outcome ≡ true → is_ready_at self.old.ready asked.member ≡ true }

@@ -42,9 +42,9 @@ pub struct MemberRow {
     pub outstanding: Option<u64>,
     /// The kind of ask that it wants next.
     pub want: Option<AskKind>,
-    /// The number of times that it was asked for that in vain; 0 where it wants nothing.
+    /// The number of attempts at that ask with no final answer; 0 where it wants nothing.
     pub k: u64,
-    /// The moment of the last such answer.
+    /// The moment of the last such attempt's outcome.
     pub last: Option<u64>,
 }
 
@@ -68,7 +68,7 @@ fn stands_as(number: u64, row: &MemberState) -> bool
     }
 }
 
-/// When the last of some repeats was.
+/// Returns the moment of the last of some repeats, if there is one.
 fn last_of(repeats: Repeats) -> Option<u64>
     ensures { result ≡ held.last_of repeats }
 {
@@ -105,7 +105,7 @@ impl Rows {
         })
     }
 
-    /// The action of that number, if it is there.
+    /// Returns the action of that number, if it is there.
     pub fn action(&self, number: u64) -> Option<ActionRow>
         ensures { (J : History) → StandsFor self.now.sheet J → result ≡ found_action J number }
     {
@@ -148,7 +148,7 @@ impl Rows {
         })
     }
 
-    /// The member of that number, if it is there.
+    /// Returns the member of that number, if it is there.
     pub fn member(&self, number: u64) -> Option<MemberRow>
         ensures { (J : History) → StandsFor self.now.sheet J → result ≡ found_member J number }
     {
@@ -161,7 +161,7 @@ impl Rows {
         self.contacts.addresses(number)
     }
 
-    /// The addresses that a member joined with, if it is there.
+    /// Returns the addresses that a member joined with, if it is there.
     pub fn addresses(&self, number: u64) -> Option<&Packed>
         ensures { (J : History) → StandsFor self.now.sheet J → option_copied result ≡ found_addresses J number }
     {
@@ -192,7 +192,7 @@ impl Rows {
         })
     }
 
-    /// The ask of that number, if it was made.
+    /// Returns the ask of that number, if it was made.
     pub fn ask(&self, number: u64) -> Option<AskRow>
         ensures { (J : History) → StandsFor self.now.sheet J → result ≡ found_ask J number }
     {
@@ -208,7 +208,7 @@ impl Rows {
         }
     }
 
-    /// The numbers of the actions nested directly in an action, rising.
+    /// Returns the numbers of the actions nested directly in an action, rising.
     pub fn children(&self, number: u64) -> &[u64]
         ensures { (J : History) → StandsFor self.now.sheet J → result.now ≡ words.children J number }
     {
@@ -224,7 +224,7 @@ impl Rows {
         }
     }
 
-    /// The numbers of an action's members, those that left among them, rising.
+    /// Returns the numbers of an action's members, those that left among them, rising.
     pub fn members(&self, number: u64) -> &[u64]
         ensures { (J : History) → StandsFor self.now.sheet J → result.now ≡ words.members_of J number }
     {
@@ -240,8 +240,8 @@ impl Rows {
         }
     }
 
-    /// The numbers of the members of an outermost action and of all below it, those that left among them, rising; none
-    /// of a nested one.
+    /// Returns the numbers of the members of an outermost action and of all below it, those that left among them,
+    /// rising; none of a nested one.
     pub fn under(&self, number: u64) -> &[u64]
         ensures { (J : History) → StandsFor self.now.sheet J → result.now ≡ members_under J number }
     {
@@ -303,7 +303,7 @@ impl Rows {
         self.void
     }
 
-    /// The moment of the last entry; 0 where there is none.
+    /// Returns the moment of the last entry; 0 where there is none.
     pub fn last_moment(&self) -> u64
         ensures { (J : History) → StandsFor self.now.sheet J → result ≡ history.last_moment J }
     {

@@ -10,7 +10,7 @@ ghost use Rattle.lra_states.specs.inner.Changes.{with_row};
 use crate::step::Written;
 use lra_model::Memory;
 
-/// The place of a number's row; 0 has none.
+/// Returns the place of a number's row; 0 has none.
 pub(crate) fn place_of(number: u64) -> Option<usize>
     ensures { MatchOption result (number ≡ 0) (λ place. number ≡ suc place) }
 {
@@ -20,7 +20,7 @@ pub(crate) fn place_of(number: u64) -> Option<usize>
     }
 }
 
-/// The row of a number, if it is there, lent.
+/// Returns a reference to the row of a number, if it is there.
 pub(crate) fn lent<T>(rows: &[T], number: u64) -> Option<&T>
     ensures { option_copied result ≡ row_at rows.now number }
 {
@@ -30,7 +30,7 @@ pub(crate) fn lent<T>(rows: &[T], number: u64) -> Option<&T>
     }
 }
 
-/// The row of a number, if it is there.
+/// Returns a copy of the row of a number, if it is there.
 pub(crate) fn at<T: Copy>(rows: &[T], number: u64) -> Option<T>
     ensures { result ≡ row_at rows.now number }
 {
@@ -38,7 +38,7 @@ pub(crate) fn at<T: Copy>(rows: &[T], number: u64) -> Option<T>
     rows.get(place as usize).copied()
 }
 
-/// Puts a row in the place of the one that is there, and gives that one.
+/// Replaces the row of a number, if it is there, and returns its number and the row that was there.
 pub(crate) fn put<T: Copy>(rows: &mut Vec<T>, number: u64, row: T) -> Option<Written<T>>
     ensures items { rows.new.items ≡ with_row number row rows.old.items }
     ensures back { put_back result rows.new.items ≡ rows.old.items }
@@ -50,7 +50,7 @@ pub(crate) fn put<T: Copy>(rows: &mut Vec<T>, number: u64, row: T) -> Option<Wri
     Some((number, before))
 }
 
-/// Puts a row back as it was.
+/// Puts a row back as it was, if one was written over.
 pub(crate) fn restore<T: Copy>(rows: &mut Vec<T>, written: Option<Written<T>>)
     ensures items { rows.new.items ≡ put_back written rows.old.items }
     ensures capacity { vec_capacity rows.new ≡ vec_capacity rows.old }

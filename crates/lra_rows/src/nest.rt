@@ -1,4 +1,4 @@
-//! Where an action stands among others.
+//! The depth of an action, its children and its members.
 
 ghost use Rattle.std.specs.Prelude.{◌≡◌, [], true, false, OnOk, OnErr};
 ghost use Rattle.lra_laws.specs.Sheets as sheets;
@@ -11,8 +11,8 @@ use lra_model::Memory;
 use std::alloc::Global;
 use std::marker::Model;
 
-/// The depth of an action, the actions nested in it, its members, and, where it is an outermost one, the members of all
-/// that stand in it, each by their numbers.
+/// The depth of an action, the numbers of its children and of its members and, where it is an outermost one, those of
+/// the members of it and of all below it.
 #[derive(Drop)]
 pub(crate) struct Nest {
     pub(crate) depth: u64,
@@ -42,7 +42,7 @@ impl Model for Nest {
 }
 
 impl Nest {
-    /// Of an action that has just started.
+    /// Returns the depth and the empty lists of an action that has just started.
     pub(crate) fn new(alloc: Global, depth: u64) -> Nest
         ensures { result ≡ record { nest = sheets.new_nest depth; capacity = no_capacity } }
     {

@@ -92,8 +92,8 @@ impl Rows {
         }
     }
 
-    /// Returns whether an entry can be carried out with no memory: there are less than 2^63 entries, each list that it
-    /// adds to takes one more, and repeats have a place that it adds to.
+    /// Returns whether an entry can be applied with no memory: there are less than 2^63 entries, each list that it adds
+    /// to takes one more, repeats have a place that it adds to, and a member that it asks has a number below 2^32.
     pub fn has_room(&self, entry: &Entry) -> bool
         ensures { result ≡ has_room entry.now self.now }
     {
@@ -168,9 +168,9 @@ impl Rows {
         }
     }
 
-    /// Makes room for one more entry: it can then be carried out with no memory. What could be before still can, and
-    /// where the entry could be, nothing changes. `Memory` where there is none for it, where there are 2^63 entries, or
-    /// where a member from 2^32 on is asked.
+    /// Makes room for one more entry: it can then be applied with no memory. What could be applied before still can,
+    /// and where the entry could be, nothing changes. `Memory` where there is none for it, where there are 2^63
+    /// entries, or where a member from 2^32 on is asked.
     pub fn reserve(&mut self, entry: &Entry) -> Result<(), Memory>
         ensures sheet { self.new.sheet ≡ self.old.sheet }
         ensures ok { OnOk result (has_room entry.now self.new ≡ true) }

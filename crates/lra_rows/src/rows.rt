@@ -69,7 +69,7 @@ impl Rows {
     ghost use Rattle.std.specs.Prelude.{◌≡◌, []};
     ghost use Rattle.lra_laws.specs.Sheets as sheets;
 
-    /// Of no entries.
+    /// Returns the rows of no entries.
     pub fn empty(alloc: Global) -> Rows
         ensures { sheets.StandsFor result.sheet [] }
     {

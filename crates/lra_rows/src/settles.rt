@@ -80,7 +80,7 @@ impl Rows {
         None
     }
 
-    /// Returns what its parent does to an action, where it does anything: closes it, or cancels it.
+    /// Returns what an action's parent does to it, where it does anything: it closes it, or cancels it.
     pub fn by_parent(&self, action: u64) -> Option<Deed>
         ensures state { result ≡ turn_by self.now.sheet.state action }
         ensures history { (J : History) → StandsFor self.now.sheet J → result ≡ by_parent J action }
@@ -102,7 +102,7 @@ impl Rows {
         }
     }
 
-    /// The end of an action, where it may end.
+    /// Returns the end of an action, where it may end.
     pub fn end(&self, action: u64) -> Option<Deed>
         ensures state { result ≡ end_by self.now.sheet.state action }
         ensures history { (J : History) → StandsFor self.now.sheet J → result ≡ found_end J action }

@@ -113,7 +113,7 @@ impl Writes {
     };
 }
 
-/// An entry that was carried out: what it wrote over and added, so that it can be taken back.
+/// An entry that was applied: what it wrote over and added, so that it can be undone.
 #[derive(Clone, Copy)]
 pub struct Step {
     pub(crate) before: Counts,

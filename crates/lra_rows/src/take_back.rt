@@ -1,4 +1,4 @@
-//! Taking back what was carried out.
+//! The undoing of entries that were applied.
 
 ghost use Rattle.std.specs.Prelude.{◌≡◌, vec_capacity};
 ghost use Rattle.lra_laws.specs.Rows.{change_row};
@@ -55,7 +55,7 @@ impl Rows {
         self.contacts.remove_last()
     }
 
-    /// Removes what was added last.
+    /// Removes what was added last. Returns its addresses, where that is a member.
     fn remove(&mut self, added: Added) -> Option<Packed>
         ensures rows { self.new ≡ without_added added self.old }
         ensures uris { result ≡ added_addresses added self.old.sheet.contacts }
@@ -94,8 +94,8 @@ impl Rows {
         self.void = counts.void;
     }
 
-    /// Takes the last entry that was carried out back, by its step, and gives the addresses of the member that joined
-    /// by it: the rows are as before it, and have the room that they had. This takes no memory.
+    /// Undoes the last entry that was applied, by its step, and returns the addresses of the member that joined by it:
+    /// the rows are as before it, and have the room that they had. This takes no memory.
     pub fn take_back(&mut self, step: Step) -> Option<Packed>
         ensures rows { self.new ≡ taken_back step self.old }
         ensures uris { result ≡ addresses_back step self.old }

@@ -1,18 +1,18 @@
-//! Reasons why a text is no rule.
+//! The reasons why a text is no rule.
 
 use std::alloc::AllocError;
 use thiserror::Error;
 
-/// Why a text is no rule.
+/// The reason why a text is no rule.
 #[derive(Clone, Copy, Debug, PartialEq, Eq, Error)]
 pub enum RuleFault {
-    /// The text before the port, or all of it where there is none, is neither `*` nor a name, an address or a network.
+    /// The text before the port, or all of it if there is none, is neither `*` nor a name, an address or a network.
     #[error("no host, address or network")]
     NotHosts,
     /// The text behind the last colon is no number up to 65535.
     #[error("no port")]
     NotPort,
-    /// A growth was refused.
+    /// An allocation was refused.
     #[error("out of memory")]
     Memory,
 }

@@ -159,7 +159,7 @@ module _ (moments : Moments) (f : ℕ → Option Timed) (ns : List ℕ) where
           let known = first.least m x.moment (moment_here h m x e) in
           (omega (arith, known.0, seen.same), λ same. omega (arith, known.1 (sym seen.same ∙ same)))
 
-  -- what tells the first of the map tells the first of the list
+  -- what finds the first of the map finds the first of the list
   pub first_is : Has → (now : ℕ) (r : Option ℕ) → (IsNone r ↔ NoneDue moments now) → IfSome r (IsFirstDue moments now)
       → r ≡ first_due now (filter_map f ns)
   first_is h now None none first = first_none h now (none.0 refl)

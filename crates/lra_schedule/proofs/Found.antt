@@ -29,7 +29,7 @@ use Rattle.lra_schedule.specs.inner.Renewals.{retry_by, limit_by, retry_in, limi
 
 -- ---- members
 
--- who isn't there wants nothing
+-- a member that isn't there wants nothing
 pub no_want : (J : History) (p : ℕ) → is_among (members J) p ≡ false → wants J p ≡ None
 unfolding wants facts_of
 no_want J p h = ap (λ (b : Bool). option_map_or (wanted (facts_of J)) (cond b (Some (member_facts J p)) None) None) h
@@ -37,7 +37,7 @@ no_want J p h = ap (λ (b : Bool). option_map_or (wanted (facts_of J)) (cond b (
 pub no_retry : (l : Limits) (J : History) (p : ℕ) → is_among (members J) p ≡ false → retry_in l J p ≡ None
 no_retry l J p h = rw (no_want J p h) refl
 
--- who wants something is there
+-- a member that wants something is there
 pub wants_there : (l : Limits) (J : History) (p moment : ℕ) → retry_in l J p ≡ Some moment → is_among (members J) p
     ≡ true
 wants_there l J p moment h = decide (is_among (members J) p) refl

@@ -99,7 +99,7 @@ renewed_counted given old now after k n o next h is e q =
     ap (λ (m : Moments). finite.get m q) e ∙ renewed_more given old now (range_with_len 1 k) n o h is q
     ∙ ap (λ (ms : List ℕ). cond (is_among ms q) (given q) (finite.get old q)) (sym (range_more k n next))
 
--- ---- what is told of changes is enough
+-- ---- what is listed of changes is enough
 
 abbrev retry_wanted : Limits → Wanting → Option ℕ
 retry_wanted l w = option_map (λ (kind : AskKind). due_after l w.count w.last) w.want

@@ -1,4 +1,4 @@
-//! When a coordinator has to act by itself: which member's want is due, and which action's limit has passed.
+//! The moments at which a coordinator acts by itself: a member's want is due, or an action's limit has passed.
 #![tactic(auto)]
 
 mod moments;

@@ -9,7 +9,7 @@ use lra_commands::Limits;
 use lra_model::ActionStatus;
 use lra_tables::{ActionRow, MemberRow, Tables};
 
-/// When the want of a member is due, if it wants anything.
+/// Returns when the want of a member is due, if it wants anything.
 fn retry_by(limits: &Limits, row: &MemberRow) -> Option<u64>
     ensures { result ≡ retry_by limits.now row.now }
 {
@@ -19,7 +19,7 @@ fn retry_by(limits: &Limits, row: &MemberRow) -> Option<u64>
     }
 }
 
-/// When the limit of an action passes, if it is Active and has one.
+/// Returns when the limit of an action passes, if it is Active and has one.
 fn limit_by(row: &ActionRow) -> Option<u64>
     ensures { row.now.since + row.now.limit < 2 ^ 64 → result ≡ limit_by row.now }
 {
@@ -29,7 +29,7 @@ fn limit_by(row: &ActionRow) -> Option<u64>
     row.since.checked_add(row.limit)
 }
 
-/// When the want of the member of that number is due, if it is there and wants anything.
+/// Returns when the want of the member of that number is due, if it is there and wants anything.
 pub(crate) fn retry_of(limits: &Limits, tables: &Tables, member: u64) -> Option<u64>
     ensures { (J : History) → StandsFor tables.now.sheet J → result ≡ retry_in limits.now J member }
 {
@@ -37,7 +37,7 @@ pub(crate) fn retry_of(limits: &Limits, tables: &Tables, member: u64) -> Option<
     retry_by(limits, &row)
 }
 
-/// When the limit of the action of that number passes, if it is there, Active and has one.
+/// Returns when the limit of the action of that number passes, if it is there, Active and has one.
 pub(crate) fn limit_of(tables: &Tables, action: u64) -> Option<u64>
     ensures { (J : History) → StandsFor tables.now.sheet J → result ≡ limit_in J action }
 {

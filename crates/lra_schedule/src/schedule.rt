@@ -17,7 +17,7 @@ use lra_timers::{Agenda, Memory};
 use std::alloc::Global;
 use std::marker::Model;
 
-/// When the want of each member is due, and when the limit of each action passes, in milliseconds.
+/// The moments, in milliseconds, at which the want of each member is due and the limit of each action passes.
 #[derive(Drop)]
 pub struct Schedule {
     agenda: Agenda,
@@ -33,7 +33,7 @@ impl Model for Schedule {
     ghost view = { λ s. s.agenda };
 }
 
-/// The earlier of two moments, where there are any.
+/// Returns the earlier of two moments, or the one that there is.
 fn earlier(one: Option<u64>, other: Option<u64>) -> Option<u64>
     ensures { (f g : ℕ → Bool) → IsFirst f one → IsFirst g other → IsFirst (λ n. f n || g n) result }
 {
@@ -47,7 +47,7 @@ fn earlier(one: Option<u64>, other: Option<u64>) -> Option<u64>
 }
 
 impl Schedule {
-    /// Of no entries.
+    /// Returns the schedule of no entries.
     pub fn new(alloc: Global) -> Schedule
         ensures { (l : LimitsValue) → IsScheduleOf l result [] }
     {
@@ -67,21 +67,21 @@ impl Schedule {
         self.agenda.room(n)
     }
 
-    /// The member whose want is due now: the one that is due since longest, and of these the least.
+    /// Returns the member whose want is due now: the one that has been due longest, and of these the least.
     pub fn due(&self, now: u64) -> Option<u64>
         ensures { (l : LimitsValue) (J : History) → IsScheduleOf l self.now J → result ≡ due l J now }
     {
         self.agenda.next_retry(now)
     }
 
-    /// The action whose limit has passed: the one whose limit passed first, and of these the least.
+    /// Returns the action whose limit has passed: the one whose limit passed first, and of these the least.
     pub fn late(&self, now: u64) -> Option<u64>
         ensures { (l : LimitsValue) (J : History) → IsScheduleOf l self.now J → result ≡ late J now }
     {
         self.agenda.first_due(now)
     }
 
-    /// The first moment at which a want is due.
+    /// Returns the first moment at which a want is due, if there is any.
     fn first_want(&self, limits: &Limits, tables: &Tables) -> Option<u64>
         ensures { (J : History) → IsScheduleOf limits.now self.now J → StandsFor tables.now.sheet J
             → IsFirst (λ n. is_some (due limits.now J n)) result }
@@ -92,7 +92,7 @@ impl Schedule {
         }
     }
 
-    /// The first moment at which a limit has passed.
+    /// Returns the first moment at which a limit has passed, if there is any.
     fn first_limit(&self, tables: &Tables) -> Option<u64>
         ensures { (l : LimitsValue) (J : History) → IsScheduleOf l self.now J → StandsFor tables.now.sheet J
             → IsFirst (λ n. is_some (late J n)) result }
@@ -103,8 +103,8 @@ impl Schedule {
         }
     }
 
-    /// The first moment at which a want is due or a limit has passed, by the same limits as before: one that has come
-    /// lies back. Where there is none, neither ever is.
+    /// Returns the first moment at which a want is due or a limit has passed, by the same limits as before. It may lie
+    /// in the past. Where there is none, no want is ever due and no limit ever passes.
     pub fn next(&self, limits: &Limits, tables: &Tables) -> Option<u64>
         ensures { (J : History) → IsScheduleOf limits.now self.now J → StandsFor tables.now.sheet J
             → IsFirstMoment limits.now J result }
@@ -195,8 +195,8 @@ impl Schedule {
         Ok(())
     }
 
-    /// The moments of the history that tables stand for, as for a coordinator that is opened again. There is room for
-    /// those that are there, and for few more.
+    /// Returns the schedule of the history that tables stand for, as for a coordinator that is opened again. Room for
+    /// more moments has to be made with `room`.
     pub fn of(alloc: Global, limits: &Limits, tables: &Tables) -> Result<Schedule, Memory>
         ensures { IfOk result (λ schedule. (K : History) → StandsFor tables.now.sheet K
             → IsScheduleOf limits.now schedule K) }

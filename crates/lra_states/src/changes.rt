@@ -1,4 +1,4 @@
-//! One more entry: how it changes what the rules read.
+//! The changes that one more entry makes to the states that the rules read.
 
 ghost use Rattle.std.specs.Prelude.{◌≡◌, ◌-◌, ◌^◌, ◌≤◌, ◌&&◌, not, ℕ, Some};
 ghost use Rattle.lra_model.specs.Addresses.{Addresses, presence_of};
@@ -51,7 +51,7 @@ fn is_uncancelled(status: ActionStatus) -> bool
     )
 }
 
-/// Returns whether a member stays in its action.
+/// Returns whether a member stays in its action: it has a compensate address and hasn't left.
 pub fn stays(row: &MemberState) -> bool
     ensures { result ≡ (row.now.addresses.compensate && not (words.has_gone row.now.status)) }
 {
@@ -65,7 +65,7 @@ fn recount(before: bool, now: bool, count: u64) -> u64
     (count + u64::from(now)).saturating_sub(u64::from(before))
 }
 
-/// An action, one of whose members changes.
+/// Returns the state of an action after one of its members changes.
 pub fn with_member(before: &MemberState, now: &MemberState, row: &ActionState) -> ActionState
     requires { CanCount row.now }
     ensures { result ≡ rows.with_member before.now now.now row.now }
@@ -97,7 +97,7 @@ pub fn with_member(before: &MemberState, now: &MemberState, row: &ActionState) -
     }
 }
 
-/// An action that a member joins.
+/// Returns the state of an action after a member joins it.
 pub fn with_new_member(now: &MemberState, row: &ActionState) -> ActionState
     requires { CanCount row.now }
     ensures { result ≡ rows.with_new_member now.now row.now }
@@ -112,7 +112,7 @@ pub fn with_new_member(now: &MemberState, row: &ActionState) -> ActionState
     }
 }
 
-/// An action, one of whose nested actions changes its status.
+/// Returns the state of an action after one of its nested actions changes its status.
 pub fn with_child(before: ActionStatus, now: ActionStatus, row: &ActionState) -> ActionState
     requires { CanCount row.now }
     ensures { result ≡ rows.with_child before now row.now }
@@ -125,7 +125,7 @@ pub fn with_child(before: ActionStatus, now: ActionStatus, row: &ActionState) ->
     }
 }
 
-/// An action in which another is started.
+/// Returns the state of an action after another action is started in it.
 pub fn with_new_child(row: &ActionState) -> ActionState
     requires { CanCount row.now }
     ensures { result ≡ rows.with_new_child row.now }
@@ -156,7 +156,7 @@ fn decided_as(direction: Direction, outcome: Outcome, status: MemberStatus) -> M
     }
 }
 
-/// Which way a status ask or a report of a member goes.
+/// Returns the direction of a status ask or of a report, by the member's status.
 fn way_of(status: MemberStatus) -> Direction
     ensures { result ≡ rows.way_of status }
 {
@@ -167,7 +167,7 @@ fn way_of(status: MemberStatus) -> Direction
     }
 }
 
-/// Which way an ask of a member goes, by its status.
+/// Returns the direction of an ask, by the member's status.
 pub fn way_asked(kind: AskKind, status: MemberStatus) -> Direction
     ensures { result ≡ rows.way_asked kind status }
 {
@@ -189,7 +189,7 @@ fn asked_as(kind: AskKind, status: MemberStatus) -> MemberStatus
     }
 }
 
-/// A member that is asked.
+/// Returns the state of a member after it is asked.
 pub fn with_ask(number: u64, kind: AskKind, row: &MemberState) -> MemberState
     ensures { result ≡ rows.with_ask number kind row.now }
 {
@@ -204,7 +204,7 @@ pub fn with_ask(number: u64, kind: AskKind, row: &MemberState) -> MemberState
     }
 }
 
-/// The last reply in completion, after one more.
+/// Returns the last reply in completion, after one more reply.
 fn completion_after(direction: Direction, outcome: Outcome, row: &MemberState) -> Option<Outcome>
     ensures { result ≡ rows.by_way direction (Some outcome) row.now.completion row.now.completion }
 {
@@ -214,7 +214,7 @@ fn completion_after(direction: Direction, outcome: Outcome, row: &MemberState) -
     }
 }
 
-/// The last reply in compensation, after one more.
+/// Returns the last reply in compensation, after one more reply.
 fn compensation_after(direction: Direction, outcome: Outcome, row: &MemberState) -> Option<Outcome>
     ensures { result ≡ rows.by_way direction row.now.compensation (Some outcome) row.now.compensation }
 {
@@ -244,14 +244,14 @@ fn compensated_by(way: Direction, outcome: Outcome, before: Option<Outcome>) -> 
     }
 }
 
-/// Returns whether an ask to forget was answered well.
+/// Returns whether the ask was one to forget, and its outcome is Done.
 fn forgets(kind: AskKind, outcome: Outcome) -> bool
     ensures { result ≡ (words.same_kind kind AskKind.Forget && words.is_done outcome) }
 {
     matches!(kind, AskKind::Forget) && matches!(outcome, Outcome::Done)
 }
 
-/// Returns whether a notice of the end was answered well.
+/// Returns whether the ask was a notice of the end, and its outcome is Done.
 fn hears(kind: AskKind, outcome: Outcome) -> bool
     ensures { result ≡ (words.same_kind kind AskKind.After && words.is_done outcome) }
 {
@@ -274,7 +274,7 @@ fn with_reply_to(asked: Standing, outcome: Outcome, row: &MemberState) -> Member
     }
 }
 
-/// A member that answers.
+/// Returns the state of a member after it answers its ask, or the same state if it has no unanswered ask.
 pub fn with_reply(outcome: Outcome, row: &MemberState) -> MemberState
     ensures { result ≡ rows.with_reply outcome row.now }
 {
@@ -284,7 +284,7 @@ pub fn with_reply(outcome: Outcome, row: &MemberState) -> MemberState
     }
 }
 
-/// A member that reports.
+/// Returns the state of a member after it reports an outcome.
 pub fn with_report(outcome: Outcome, row: &MemberState) -> MemberState
     ensures { result ≡ rows.with_report outcome row.now }
 {
@@ -297,7 +297,7 @@ pub fn with_report(outcome: Outcome, row: &MemberState) -> MemberState
     }
 }
 
-/// A member that is skipped.
+/// Returns the state of a member after it is skipped, which completes it.
 pub fn with_skip(row: &MemberState) -> MemberState
     ensures { result ≡ rows.with_skip row.now }
 {
@@ -308,21 +308,21 @@ pub fn with_skip(row: &MemberState) -> MemberState
     }
 }
 
-/// A member with another status.
+/// Returns the state of a member with another status.
 pub fn with_status(status: MemberStatus, row: &MemberState) -> MemberState
     ensures { result ≡ record row.now { status = status } }
 {
     MemberState { status, ..*row }
 }
 
-/// An action with another status.
+/// Returns the state of an action with another status.
 pub fn turned(status: ActionStatus, row: &ActionState) -> ActionState
     ensures { result ≡ record row.now { status = status } }
 {
     ActionState { status, ..*row }
 }
 
-/// An action whose limit is set anew, and counts from a moment.
+/// Returns the state of an action with a new limit in milliseconds, which counts from the moment `since`.
 pub fn renewed(length: u64, since: u64, row: &ActionState) -> ActionState
     ensures { result ≡ record row.now { limit = record { length_of = length; since = since } } }
 {
@@ -332,7 +332,7 @@ pub fn renewed(length: u64, since: u64, row: &ActionState) -> ActionState
     }
 }
 
-/// A member that has joined, by which addresses it has.
+/// Returns the state of a member that has just joined with these addresses.
 pub fn new_member(action: u64, addresses: Presence) -> MemberState
     ensures { (u : Addresses) → addresses ≡ presence_of u → result ≡ rows.new_member action u }
 {
@@ -350,7 +350,7 @@ pub fn new_member(action: u64, addresses: Presence) -> MemberState
     }
 }
 
-/// An action that has started.
+/// Returns the state of an action that has just started.
 pub fn new_action(parent: Option<u64>, top: u64, limit: u64, moment: u64) -> ActionState
     ensures { (a : ℕ) → result ≡ rows.new_action a parent top limit moment }
 {

@@ -1,4 +1,4 @@
-//! When an action may end, and how.
+//! The end of an action: whether it may end, and with which status.
 
 ghost use Rattle.std.specs.Prelude.{◌≡◌};
 ghost use Rattle.lra_laws.specs.Ends.{settled_by, right_end_by};
@@ -17,7 +17,7 @@ pub fn is_settled(row: &ActionState) -> bool
     }
 }
 
-/// The status that an action ends with, by its counts.
+/// Returns the status that an action ends with, by its counts.
 pub fn right_end(row: &ActionState) -> ActionStatus
     ensures { result ≡ right_end_by row.now }
 {

@@ -23,7 +23,7 @@ impl Model for Limit {
     ghost inverse = { λ l. record { length = l.length_of; since = l.since } };
 }
 
-/// Which addresses a member has.
+/// The presence of each address of a member.
 #[derive(Clone, Copy, Debug)]
 pub struct Presence {
     pub compensate: bool,
@@ -56,7 +56,7 @@ impl Model for Presence {
     } };
 }
 
-/// An ask that its member hasn't answered; a restart may have made it void.
+/// An ask that its member hasn't answered. A restart may have made it void.
 #[derive(Clone, Copy, Debug)]
 pub struct Standing {
     pub number: u64,
@@ -74,7 +74,7 @@ impl Model for Standing {
     ghost inverse = { λ s. record { number = s.number; kind = s.kind; direction = s.direction } };
 }
 
-/// The ask that stands with a member, where there is one, in fewer bytes than an `Option` of it has.
+/// The unanswered ask of a member, if there is one. It takes fewer bytes than an `Option` of the ask.
 #[derive(Clone, Copy, Debug)]
 pub struct Awaited {
     number: u64,
@@ -101,7 +101,7 @@ impl Model for Awaited {
 }
 
 impl Awaited {
-    /// No ask.
+    /// Returns the value of a member without an unanswered ask.
     pub fn none() -> Awaited
         ensures { result ≡ None }
     {
@@ -113,7 +113,7 @@ impl Awaited {
         }
     }
 
-    /// An ask that stands.
+    /// Returns the value of a member with this unanswered ask.
     pub fn of(asked: Standing) -> Awaited
         ensures { result ≡ Some asked }
     {
@@ -125,7 +125,7 @@ impl Awaited {
         }
     }
 
-    /// The ask, where there is one.
+    /// Returns the ask, if there is one.
     pub fn get(self) -> Option<Standing>
         ensures { result ≡ self }
     {
@@ -140,8 +140,8 @@ impl Awaited {
     }
 }
 
-/// A member, as the rules see it. There may be very many: the wide fields come first, so that few bytes are lost
-/// between them.
+/// The state of a member that the rules read. There may be very many members: the wide fields come first, so that few
+/// bytes are lost between them.
 #[derive(Clone, Copy, Debug)]
 pub struct MemberState {
     pub action: u64,
@@ -194,14 +194,14 @@ impl Model for MemberState {
     } };
 }
 
-/// Returns whether a member's last reply in a direction was that it has only begun.
+/// Returns whether a member's last reply in a direction was Accepted: the member goes on by itself.
 pub fn was_accepted(reply: Option<Outcome>) -> bool
     ensures { result ≡ tests.was_accepted reply }
 {
     matches!(reply, Some(Outcome::Accepted))
 }
 
-/// An action, as the rules see it, with how many of its staying members and of the actions nested in it are in which
+/// The state of an action that the rules read, with counts of its staying members and of its nested actions by their
 /// status.
 #[derive(Clone, Copy, Debug)]
 pub struct ActionState {

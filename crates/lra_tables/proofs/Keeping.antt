@@ -49,7 +49,7 @@ keeping i new e s b same listed J h digest =
     ∙ ap (λ (key : ℕ). staying_with key digest (now i e s b)) same))
     (listed digest)
 
--- one joins
+-- a member joins
 pub kept_joined : (i new : Indexed) (e : Entry) (s : Sheet) (b : IsKeptBefore i e s) (p a : ℕ) (u : Addresses)
     (digest : ℕ) → e.deed ≡ Join p a u → digest ≡ digest_of i.key a u → new.key ≡ i.key
     → ((other : ℕ) (ns : List ℕ) → IsListed i other ns → IsListed new other (cond (digest == other) (ns ++ p ∷ []) ns))
@@ -69,7 +69,7 @@ kept_joined i new e s b p a u digest is at same listed = keeping i new e s b sam
     h : StandsFor b.before b.follows.history
     h = b.follows.stands
 
--- one leaves
+-- a member leaves
 pub kept_left : (i new : Indexed) (e : Entry) (s : Sheet) (b : IsKeptBefore i e s) (p digest : ℕ) → e.deed ≡ Leave p
     → digest ≡ digest_of i.key (action_of (now i e s b) p) (addresses_of (now i e s b) p) → new.key ≡ i.key
     → ((other : ℕ) (ns : List ℕ) → IsListed i other ns → IsListed new other (cond (digest == other) (without p ns) ns))
@@ -99,7 +99,7 @@ kept_left i new e s b p digest is at same listed = keeping i new e s b same (λ 
         ∙ (λ k. digest_of i.key (action_kept J e.by e.moment (Leave p) p refl k)
         (addresses_kept J e.by e.moment (Leave p) p refl k))
 
--- one that leaves is there
+-- a member that leaves is there
 pub leaves_there : (i : Indexed) (e : Entry) (s : Sheet) (b : IsKeptBefore i e s) (p : ℕ) → e.deed ≡ Leave p
     → is_among (members (now i e s b)) p ≡ true
 leaves_there i e s b p is =
@@ -108,7 +108,7 @@ leaves_there i e s b p is =
     member_there_push J e p (told h.version h.is_address J e.by e.moment (Leave p)
     (subst (λ (d : Deed). Allowed h.version h.is_address J (entry e.by e.moment d)) is (may_follow i e s b)))
 
--- no one joins or leaves
+-- no member joins or leaves
 pub kept_same : (i : Indexed) (e : Entry) (s : Sheet) (b : IsKeptBefore i e s)
     → ((p a : ℕ) (u : Addresses) → e.deed ≡ Join p a u → ⊥) → ((p : ℕ) → e.deed ≡ Leave p → ⊥) → IsKept i s
 kept_same i e s b no_join no_leave = keeping i i e s b refl (λ other. subst (IsListed i other)

@@ -1,4 +1,4 @@
--- Who has the same addresses is found among those whose digest is the same.
+-- The member with the same addresses is found among those whose digest is the same.
 use Rattle.std.proofs.Common.{◌≡◌, ℕ, zero, suc, ◌+◌, ◌≤◌, Bool, true, false, List, [], ◌∷◌, length, take, filter}
 use Rattle.std.proofs.Common.{Option, Some, None, refl, sym, ap, ◌∙◌, cond, find, arith, eq-eqb, eqb-true}
 use Rattle.std.specs.Prelude.{◌==◌, ◌&&◌, not, slice_get}
@@ -47,7 +47,7 @@ same_texts w u h =
       after = same_text w.after u.after a.1 i;
     }
 
--- ---- who is found
+-- ---- the member that is found
 
 -- of a member that is there
 same_there : (J : History) (a : ℕ) (u : Addresses) (p : ℕ) → is_among (members J) p ≡ true → found_same J a u p

@@ -58,9 +58,9 @@ pub staying_few : (v : Version) (t : List ℕ → Bool) (J : History) → is_leg
 staying_few v t J l key digest = let a = filter_shorter (has_digest key digest J) (members J) in
     let b = members_few v t J l in omega arith
 
--- ---- one sheet
+-- ---- one snapshot
 
--- the histories that one sheet stands for have the same
+-- the histories that one snapshot stands for have the same
 pub one_staying : (s : Sheet) (J K : History) → StandsFor s J → StandsFor s K → (key digest : ℕ)
     → staying_with key digest K ≡ staying_with key digest J
 one_staying s J K h k key digest = filter_same (has_digest key digest K) (has_digest key digest J) (members K) same
@@ -108,7 +108,7 @@ digest_stays J by m d p key digest there stays =
     λ i. not (left_quiet J by m d p stays i) && (digest_of key (action_of_stays J (entry by m d) p there i)
     (addresses_stay J (entry by m d) p there i) == digest)
 
--- no one joins or leaves
+-- no member joins or leaves
 pub staying_still : (J : History) (by m : ℕ) (d : Deed) (key digest : ℕ) → joined_by d ≡ None
     → ((p : ℕ) → is_leave_of p d ≡ false) → staying_with key digest (more J by m d) ≡ staying_with key digest J
 staying_still J by m d key digest none stays =
@@ -120,7 +120,7 @@ not_both : (b : Bool) → b ≡ true → b ≡ false → ⊥
 not_both true e h = cc
 not_both false e h = cc
 
--- one joins
+-- a member joins
 pub staying_joined : (v : Version) (t : List ℕ → Bool) (J : History) (by m p a : ℕ) (u : Addresses) → is_legal v t J
     ≡ true → Allowed v t J (entry by m (Join p a u)) → (key digest : ℕ)
     → staying_with key digest (more J by m (Join p a u)) ≡ cond (digest_of key a u == digest)
@@ -188,7 +188,7 @@ without_filter f g p same gone a (suc n) =
         (a ∷ without p (filter f (range_with_len (a + 1) n)))) apart ∙ ap (λ (ns : List ℕ). a ∷ ns) rest
     past false apart rest = rest
 
--- one leaves
+-- a member leaves
 pub staying_left : (v : Version) (t : List ℕ → Bool) (J : History) (by m p : ℕ) → is_legal v t J ≡ true
     → is_among (members J) p ≡ true → (key digest : ℕ)
     → staying_with key digest (more J by m (Leave p)) ≡ cond (digest_of key (action_of J p) (addresses_of J p)

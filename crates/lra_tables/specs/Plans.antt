@@ -17,7 +17,7 @@ use Rattle.lra_rows.specs.Rowed.{Capacity}
 use Rattle.lra_rows.specs.Found.{found_action, found_member}
 
 -- tables: what they keep of a history, how much their lists hold with no more memory, how many more members and actions
--- their marks take, how many more may join, and the key of the digests of addresses
+-- their indexed sets take, how many more may join, and the key of the digests of addresses
 pub record Tabled : Type 0 where
   pub sheet : Sheet
   pub capacity : Capacity
@@ -37,7 +37,7 @@ board_of t = record {
       t.ends;
 }
 
--- whether there is room for one that joins, where an entry lets one join
+-- whether there is room for one more member in the index, where a deed lets one join
 abbrev pub takes_one : Deed → ℕ → Bool
 takes_one (Join p a uris) places = nat_lt 0 places
 takes_one d places = true
@@ -55,7 +55,8 @@ pub record Planned : Type 0 where
   pub members : List ℕ
   pub actions : List ℕ
 
--- what a member wants to be asked next, how often it was asked for that in vain, and when it last was
+-- what a member wants to be asked next, the number of attempts at that with no final answer, and the moment of the last
+-- of them
 pub record Wanting : Type 0 where
   pub want : Option AskKind
   pub count : ℕ
@@ -76,11 +77,11 @@ abbrev pub limiting : History → ℕ → Option Limiting
 limiting J a = option_map (λ (r : ActionRow). record { active = is_active r.status; limit = r.limit; since = r.since })
     (found_action J a)
 
--- the members listed are all whose wants differ in the longer history
+-- all members whose wants differ in the longer history are listed
 abbrev pub CoversWants : List ℕ → History → History → Type 0
 CoversWants ps J K = (p : ℕ) → is_among ps p ≡ false → wanting K p ≡ wanting J p
 
--- the actions listed are all whose deadlines differ in the longer history
+-- all actions whose deadlines differ in the longer history are listed
 abbrev pub CoversLimits : List ℕ → History → History → Type 0
 CoversLimits xs J K = (a : ℕ) → is_among xs a ≡ false → limiting K a ≡ limiting J a
 

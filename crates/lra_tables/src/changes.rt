@@ -1,4 +1,4 @@
-//! Whose wants and whose deadlines entries may change.
+//! The members whose wants entries may change, and the actions whose deadlines.
 
 ghost use Rattle.std.specs.Prelude.{◌≡◌, ◌++◌, OnOk, IfOk, cond, is_some, option_to_list};
 ghost use Rattle.lra_model.specs.History.{History};
@@ -25,7 +25,7 @@ pub(crate) struct Changes {
     pub(crate) actions: Vec<u64>,
 }
 
-/// The member of an ask, where it is outstanding.
+/// Adds the member of an ask, where the ask is outstanding.
 fn add_awaited(rows: &Rows, ask: u64, members: &mut Vec<u64>) -> Result<(), Memory>
     ensures { OnOk result ((J : History) → StandsFor rows.now.sheet J → members.new.items ≡ members.old.items
         ++ option_to_list (member_awaited J ask)) }
@@ -38,7 +38,7 @@ fn add_awaited(rows: &Rows, ask: u64, members: &mut Vec<u64>) -> Result<(), Memo
     Ok(())
 }
 
-/// The members of all asks that are outstanding, of which there are none before the last restart.
+/// Adds the members of all outstanding asks, none of which was made before the last restart.
 fn add_all_awaited(rows: &Rows, members: &mut Vec<u64>) -> Result<(), Memory>
     ensures { OnOk result ((J : History) → StandsFor rows.now.sheet J → members.new.items ≡ members.old.items
         ++ members_awaited J) }
@@ -59,7 +59,7 @@ fn is_nested(rows: &Rows, action: u64) -> bool
     }
 }
 
-/// The members of an action that ends, and of all below it where it is an outermost one.
+/// Returns the members of an action that ends, and of all below it where it is an outermost one.
 fn ended(rows: &Rows, action: u64) -> &[u64]
     ensures { (J : History) → StandsFor rows.now.sheet J → result.now ≡ cond (is_some (parent J action))
         (members_of J action) (members_under J action) }
@@ -71,7 +71,7 @@ fn ended(rows: &Rows, action: u64) -> &[u64]
     }
 }
 
-/// The members whose wants a deed may change.
+/// Adds the members whose wants a deed may change.
 fn add_members(rows: &Rows, deed: &Deed, members: &mut Vec<u64>) -> Result<(), Memory>
     ensures { OnOk result ((J : History) → StandsFor rows.now.sheet J → members.new.items ≡ members.old.items
         ++ members_changed J deed.now) }
@@ -96,7 +96,7 @@ fn add_members(rows: &Rows, deed: &Deed, members: &mut Vec<u64>) -> Result<(), M
     Ok(())
 }
 
-/// The actions whose deadlines a deed may change.
+/// Adds the actions whose deadlines a deed may change.
 fn add_actions(deed: &Deed, actions: &mut Vec<u64>) -> Result<(), Memory>
     ensures { OnOk result (actions.new.items ≡ actions.old.items ++ actions_changed deed.now) }
 {
@@ -112,8 +112,8 @@ fn add_actions(deed: &Deed, actions: &mut Vec<u64>) -> Result<(), Memory>
 }
 
 impl Changes {
-    /// Lists what entries change that are to come after those of the rows, in time linear in what is listed: a number
-    /// may come twice.
+    /// Lists what entries change that are to come after those of the rows: a number may come twice. This takes time
+    /// linear in the entries, in what is listed and, for a restart, in the asks made since the last one.
     pub(crate) fn of(alloc: Global, rows: &Rows, entries: &[Entry]) -> Result<Changes, Memory>
         ensures members { IfOk result (λ c. (J : History) → StandsFor rows.now.sheet J → c.members.items
             ≡ members_changed_by J entries.now) }

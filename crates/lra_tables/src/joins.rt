@@ -26,8 +26,8 @@ fn is_same_member(rows: &Rows, number: u64, action: u64, uris: &Uris) -> bool
     row.action == action && !matches!(row.status, MemberStatus::Left) && addresses.is_same(uris)
 }
 
-/// The least member of an action that hasn't left and has these addresses already, found among those whose digest is
-/// the same.
+/// Returns the least member of an action that hasn't left and has these addresses already, found among those whose
+/// digest is the same.
 pub(crate) fn find_joined(index: &Index, rows: &Rows, action: u64, uris: &Uris) -> Option<u64>
     requires { IsKept index.now rows.now.sheet }
     ensures { (J : History) → StandsFor rows.now.sheet J → result ≡ already_member J action uris.now }
@@ -46,7 +46,7 @@ pub(crate) fn find_joined(index: &Index, rows: &Rows, action: u64, uris: &Uris) 
     None
 }
 
-/// Takes a member that has left away from the index.
+/// Removes a member that has left from the index.
 fn forget(index: &mut Index, rows: &Rows, member: u64)
     requires { (e : EntryValue) × IsKeptBefore index.old e rows.now.sheet × (e.deed ≡ deeds.Leave member) }
     ensures kept { IsKept index.new rows.now.sheet }
@@ -65,8 +65,8 @@ fn forget(index: &mut Index, rows: &Rows, member: u64)
     index.remove(digest, member);
 }
 
-/// Keeps the index with an entry that the rows have already: it adds the member that joins, for which there is room,
-/// and takes away the one that leaves.
+/// Updates the index by an entry that the rows have already: adds the member that joins, for which there is room, or
+/// removes the one that leaves.
 pub(crate) fn keep(index: &mut Index, rows: &Rows, entry: &Entry)
     requires before { IsKeptBefore index.old entry.now rows.now.sheet }
     requires room { TakesOne entry.now.deed index.old }

@@ -28,21 +28,21 @@ impl Model for Plan {
 }
 
 impl Plan {
-    /// The entries that are to come, in order.
+    /// Returns the entries that are to come, in order.
     pub fn entries(&self) -> &[Entry]
         ensures { result.now ≡ self.now.entries }
     {
         self.entries.as_slice()
     }
 
-    /// The members whose wants the entries may change: all others want what they want now.
+    /// Returns the members whose wants the entries may change: all others want what they want now.
     pub fn members(&self) -> &[u64]
         ensures { result.now ≡ self.now.members }
     {
         self.members.as_slice()
     }
 
-    /// The actions whose deadlines the entries may change.
+    /// Returns the actions whose deadlines the entries may change.
     pub fn actions(&self) -> &[u64]
         ensures { result.now ≡ self.now.actions }
     {

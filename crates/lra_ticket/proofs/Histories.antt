@@ -1,4 +1,4 @@
--- Lemmas on the entries of a number, and on what comes after a front.
+-- Lemmas on the entries of a number, and on what comes after a prefix.
 use Rattle.std.proofs.Common.{◌≡◌, ◌≢◌, ◌⊎◌, ℕ, ◌<◌, ◌≤◌, Bool, cond, eqb, eq-eqb, ne_eqb, List, [], ◌∷◌, ◌++◌, drop}
 use Rattle.std.proofs.Common.{length, inl, inr, ⊎_elim, le-ltb, lt-ltb, sym, refl, ap, subst, ◌∙◌, arith, append_assoc}
 use Rattle.std.specs.List.{All, AllByRecursion}
@@ -37,12 +37,12 @@ keeps_none : (a b c : List Entry) → (a ++ b) ++ c ≡ a → b ≡ []
 keeps_none [] b c e = nil_left b c e
 keeps_none (x ∷ xs) b c e = keeps_none xs b c (ap (drop 1) e)
 
--- what comes after a front is what was added to it
+-- what comes after a prefix is what was added to it
 pub block_after-append : (a b : List Entry) → block_after a (a ++ b) ≡ b
 block_after-append [] b = refl
 block_after-append (x ∷ xs) b = block_after-append xs b
 
--- a history is its front and what comes after it
+-- a history is its prefix and what comes after it
 pub whole : (a h : List Entry) → IsPrefix a h → a ++ block_after a h ≡ h
 whole a h p = ap (λ (l : List Entry). a ++ drop (length a) l) (sym p.1)
     ∙ (ap (λ (l : List Entry). a ++ l) (block_after-append a p.0) ∙ p.1)
@@ -82,7 +82,7 @@ pub longer_of : (P : List Entry → Type 0) (a b : List Entry) → Comparable a 
 longer_of P a b line second first = ⊎_elim (λ (p : IsPrefix a b). longer_cases P a b b p (prefix_refl b) second first)
     (λ (q : IsPrefix b a). longer_cases P a b a (prefix_refl a) q second first) line
 
--- what has no more entries of a number than its front, has none of them after it
+-- what has no more entries of a number than its prefix, has none of them after it
 pub entries_by-between : (n : ℕ) (a b c : List Entry) → IsPrefix a b → IsPrefix b c → entries_by n c ≡ entries_by n a
     → entries_by n b ≡ entries_by n a
 entries_by-between n a b c p q e = let r = p.0 in let t = q.0 in

@@ -122,7 +122,7 @@ ticket_between next serving log seen t (Missed s n) h has = absurd (omega arith)
 ticket_between next serving log seen t (Paired k a) h has = absurd (omega arith)
 ticket_between next serving log seen t Spent h has = absurd (omega arith)
 
--- who holds the lock has the ticket that is served
+-- the holder of the lock has the ticket that is served
 holder_has : (next serving : ℕ) (log seen : List Entry) (p : Place) → IsPlaced next serving log seen p → 0
     < holds_lock p → (has_ticket serving p ≡ 1) × (serving < next)
 holder_has next serving log seen Idle h has = absurd (omega arith)

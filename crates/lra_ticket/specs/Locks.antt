@@ -52,7 +52,7 @@ pub record Suits {X O : Type 0} (origin : X → O) (history : X → List Entry) 
     (x : X) : Type 0 where
   pub lawful_now : lawful x
   pub same_origin : origin x ≡ v.origin
-  -- all that was seen before stands at the front
+  -- all that was seen before stands at the beginning
   pub begins : IsPrefix v.seen (history x)
   -- and after it comes nothing under the view's number
   pub seen_own : entries_by v.number v.seen ≡ v.mine

@@ -30,7 +30,7 @@ IsPlaced next serving log seen Spent = Unit {0}
 pub record Fits {O : Type 0} (origin : O) (log : List Entry) (s : Sight O) : Type 0 where
   pub same_origin : s.origin ≡ origin
   pub begins : IsPrefix s.seen log
-  -- whoever adds entries under the number has seen them
+  -- the caller that adds entries under the number has seen them
   pub all_seen : entries_by s.number log ≡ entries_by s.number s.seen
   pub own : s.mine ≡ entries_by s.number s.seen
   pub enrolled : s.number ≢ 0 → s.mine ≢ []

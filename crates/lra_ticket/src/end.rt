@@ -17,8 +17,8 @@ use crate::lock::{Held, Parts, Pass, TicketLock};
 use crate::rule::{NEXT, SERVING};
 
 impl<V: Kept> TicketLock<V> {
-    /// Ends the lock and gives its value, where no one has the lock or waits for it. Else it hands lock and pass back.
-    /// It does not wait.
+    /// Ends the lock and returns its value, if no caller has the lock or waits for it. Otherwise returns the lock and
+    /// the pass. It does not wait.
     pub fn close(self, pass: Pass<V>) -> Result<V, (TicketLock<V>, Pass<V>)>
         requires { pass_id pass ≡ lock_id self }
         ensures value { IfOk result (λ x. Suits V.origin V.history V.lawful (pass_view pass) x) }
@@ -38,7 +38,7 @@ impl<V: Kept> TicketLock<V> {
         }
     }
 
-    /// The value of a lock that serves the ticket which is never drawn.
+    /// Returns the value of a lock that serves the ticket which is never drawn.
     fn last_value(self, pass: Pass<V>) -> V
         requires lock { pass_id pass ≡ lock_id self }
         requires last { (pass_view pass).place ≡ Peeked last_ticket }
@@ -47,11 +47,11 @@ impl<V: Kept> TicketLock<V> {
         self.into_parts(pass).value.unwrap()
     }
 
-    /// Ends the lock as it is, held or not, and tells what it had: its two tickets, and the value where no one holds
-    /// it. What a holder still has can't be given back then.
+    /// Ends the lock as it is, held or not, and returns its parts: its two tickets, and the value if no caller holds
+    /// it. A holder can't give its value back then.
     ///
-    /// One state meets the rule of the lock, with these, and with the view of this pass. Of the other passes it tells
-    /// that the rule holds of their views too, and not which they are; `meet` tells of any two.
+    /// Shows that one state meets the rule of the lock, with these parts and with the view of this pass. The rule holds
+    /// of the views of the other passes too, but which these are isn't shown; `meet` shows that of any two.
     pub fn into_parts(self, pass: Pass<V>) -> Parts<V>
         requires { pass_id pass ≡ lock_id self }
         ensures { HasEnded V.origin V.history V.lawful (V.origin (first_value self)) (pass_view pass) result }

@@ -16,7 +16,7 @@ use std::alloc::Global;
 use std::snapshot::Snapshot;
 
 impl<V: Kept> TicketLock<V> {
-    /// A lock round a value, and a pass that has no number yet. Where memory is refused the value is dropped.
+    /// Makes a lock round a value, and a pass that has no number yet. If memory is refused, the value is dropped.
     pub fn new(alloc: Global, value: V) -> Result<(TicketLock<V>, Pass<V>), Memory>
         requires { V.lawful value }
         ensures lock { IfOk result (λ r. pass_id r.1 ≡ lock_id r.0) }
@@ -25,7 +25,7 @@ impl<V: Kept> TicketLock<V> {
         open(alloc, value, 0, 0)
     }
 
-    /// The same, with the first ticket that is drawn.
+    /// Makes such a lock and pass, with the first ticket that is drawn.
     pub fn starting_at(
         alloc: Global,
         value: V,
@@ -38,7 +38,7 @@ impl<V: Kept> TicketLock<V> {
         open(alloc, value, 0, first_ticket)
     }
 
-    /// A lock round a value, and a pass under a number that entries of its history bear.
+    /// Makes a lock round a value, and a pass under a number that entries of its history bear.
     pub fn new_for(alloc: Global, value: V, number: u32) -> Result<(TicketLock<V>, Pass<V>), Memory>
         requires lawful { V.lawful value }
         requires enrolled { (number ≢ 0) × (entries_by number (V.history value) ≢ []) }

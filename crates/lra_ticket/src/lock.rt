@@ -62,7 +62,7 @@ pub struct Parts<V> {
 #[error("the lock is worn")]
 pub struct Worn;
 
-/// Why the lock was not had without waiting.
+/// Why the lock was not taken without waiting.
 #[derive(Debug, Drop, Clone, Copy, PartialEq, Eq, Error)]
 pub enum TryFault {
     /// Another caller holds the lock, or waits for it.

@@ -1,4 +1,4 @@
-//! The names of the steps. What each tells is in `specs/inner/Steps.antt`, and how a view changes at a move there and
+//! The names of the steps. What each shows is in `specs/inner/Steps.antt`, and how a view changes at a move there and
 //! in `specs/Views.antt`.
 ghost use Rattle.lra_ticket.specs.inner.Steps.{
   looked,
@@ -42,7 +42,7 @@ impl<V: Kept> Play<Option<V>, View<V::Origin>> for Watch {
     ghost then = { watched V.origin V.history V.lawful };
 }
 
-/// The slot goes home, and the next ticket is served.
+/// The slot goes back, and the next ticket is served.
 pub struct Give;
 
 impl<V: Kept> Play<Option<V>, View<V::Origin>> for Give {

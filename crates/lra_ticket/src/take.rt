@@ -41,8 +41,8 @@ const NAPS: u32 = 50;
 const NAP: u64 = 50;
 
 impl<V: Kept> TicketLock<V> {
-    /// Waits until the lock is free, though not for long, draws a ticket, waits until it is served, and hands out the
-    /// value. Where no ticket is left it draws none.
+    /// Waits until the lock is free, though not for long, draws a ticket, waits until it is served, and returns the
+    /// value. If no ticket is left, it draws none.
     pub fn take<R: Wait>(&self, rt: &R, pass: Pass<V>) -> Result<(Held<V>, V), (Pass<V>, Worn)>
         requires { pass_id pass ≡ lock_id self.now }
         ensures lock { IfOk result (λ r. held_id r.0 ≡ lock_id self.now) }
@@ -56,9 +56,9 @@ impl<V: Kept> TicketLock<V> {
         Ok(self.wait(rt, queued))
     }
 
-    /// Waits until no one has the lock or waits for it, some milliseconds at most. A drawn ticket has to be served in
-    /// its turn, by whichever thread that is; while callers draw none, the lock goes to one that runs already, and no
-    /// turn is spent on waking another.
+    /// Spins, then parks, until no caller has the lock or waits for it, for some milliseconds at most. A drawn ticket
+    /// has to be served in its turn, by whichever thread has it. While callers draw none, the lock goes to a thread
+    /// that runs already, and none has to wake for its turn.
     fn linger<R: Wait>(&self, rt: &R) {
         let shared = &self.table.shared;
         for _ in 0..TURNS {
@@ -128,8 +128,8 @@ impl<V: Kept> TicketLock<V> {
         unreachable!()
     }
 
-    /// Hands out the value where no one has the lock or waits for it. It does not wait: it reads the ticket that is
-    /// served, and draws it if it is the next one.
+    /// Takes the lock and returns the value, if no caller has the lock or waits for it. It does not wait: it reads the
+    /// ticket that is served, and draws it if it is the next one.
     pub fn try_take(&self, pass: Pass<V>) -> Result<(Held<V>, V), (Pass<V>, TryFault)>
         requires { pass_id pass ≡ lock_id self.now }
         ensures lock { IfOk result (λ r. held_id r.0 ≡ lock_id self.now) }
@@ -159,7 +159,7 @@ impl<V: Kept> TicketLock<V> {
         (served, Pass { seat })
     }
 
-    /// Draws the ticket that was served, where it is the next one.
+    /// Draws the ticket that was served, if it is the next one, and takes the value.
     pub(crate) fn grab(&self, pass: Pass<V>, served: u64) -> Result<(Held<V>, V), Pass<V>>
         requires lock { pass_id pass ≡ lock_id self.now }
         requires peeked { (pass_view pass).place ≡ Peeked served }

@@ -11,7 +11,7 @@ both_true false y e = cc
 pub deadline_from_fields : (a b : Deadline) → a.moment ≡ b.moment → a.number ≡ b.number → a ≡ b
 deadline_from_fields a b moments numbers i = record { moment = moments i; number = numbers i }
 
--- what `==` tells
+-- what `==` says
 pub deadline_from_eq : (a b : Deadline) → true ≡ (eqb a.moment b.moment && eqb a.number b.number) → a ≡ b
 deadline_from_eq a b e = let both = both_true _ _ e in
     deadline_from_fields a b (eqb-true _ _ both.0) (eqb-true _ _ both.1)

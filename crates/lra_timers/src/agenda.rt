@@ -70,7 +70,7 @@ impl Agenda {
         self.limits.set(action, moment)
     }
 
-    /// An action without a limit is left as it is.
+    /// Removes the limit of an action, if it has one.
     pub fn drop_limit(&mut self, action: u64)
         ensures limits { self.new.limits ≡ map.remove self.old.limits action }
         ensures retries { self.new.retries ≡ self.old.retries }
@@ -79,7 +79,7 @@ impl Agenda {
         self.limits.remove(action);
     }
 
-    /// The action whose limit is reached first, where that is now or before.
+    /// Returns the action whose limit is reached first, if that is now or before.
     pub fn first_due(&self, now: u64) -> Option<u64>
         ensures none { IsNone result ↔ NoneDue self.now.limits now }
         ensures first { IfSome result (IsFirstDue self.now.limits now) }
@@ -100,7 +100,7 @@ impl Agenda {
         self.retries.set(member, moment)
     }
 
-    /// A member that isn't to be asked again is left as it is.
+    /// Removes the retry of a member, if it has one.
     pub fn drop_retry(&mut self, member: u64)
         ensures retries { self.new.retries ≡ map.remove self.old.retries member }
         ensures limits { self.new.limits ≡ self.old.limits }
@@ -109,7 +109,7 @@ impl Agenda {
         self.retries.remove(member);
     }
 
-    /// The member that is asked again first, where that is now or before.
+    /// Returns the member that is asked again first, if that is now or before.
     pub fn next_retry(&self, now: u64) -> Option<u64>
         ensures none { IsNone result ↔ NoneDue self.now.retries now }
         ensures first { IfSome result (IsFirstDue self.now.retries now) }

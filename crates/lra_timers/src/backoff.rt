@@ -1,7 +1,7 @@
 ghost use Rattle.std.specs.Prelude.{◌≡◌, ◌≤◌};
 ghost use Rattle.lra_timers.specs.Pauses.{pause};
 
-/// Returns how long to wait before a member is asked again, in milliseconds, where k asks in a row told nothing final:
+/// Returns the back-off before a member is asked again, in milliseconds, after k asks in a row without a final reply:
 /// the base for the first, doubled for each further one, and never more than the cap.
 pub fn pause(base: u64, cap: u64, k: u64) -> u64
     requires { 1 ≤ k }

@@ -10,13 +10,13 @@ pub struct Deadline {
 }
 
 impl Deadline {
-    /// No deadline stands behind it.
+    /// The deadline that comes after all others.
     pub const LAST: Deadline = Deadline {
         moment: u64::MAX,
         number: u64::MAX,
     };
 
-    /// By moment, then by number.
+    /// Returns whether a deadline is before another: by moment, then by number.
     fn is_before(self, other: Deadline) -> bool
         ensures { MatchBool result (IsNotAfter self other) (IsNotAfter other self) }
     {

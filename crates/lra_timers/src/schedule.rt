@@ -34,7 +34,7 @@ impl Model for Schedule {
     ghost invariant = { λ s. IsIndex s.places s.deadlines.items };
 }
 
-/// Gives a number that has a place another one.
+/// Replaces the place of a number that has one.
 fn move_to(places: &mut HashMap<u64, usize>, number: u64, place: usize)
     requires { IsSome (get nat_eq places.old number) }
     ensures moved { Updates nat_eq places.old places.new number (Some place) }
@@ -66,7 +66,7 @@ impl Schedule {
         self.deadlines.reserve(additional)
     }
 
-    /// A number that has a moment already takes no room.
+    /// Sets the moment of a number. A number that has one already takes no room.
     pub fn set(&mut self, number: u64, moment: u64) -> Result<(), AllocError>
         ensures ok { OnOk result (self.new.moments ≡ map.insert self.old.moments number moment) }
         ensures err { OnErr result (self.new.moments ≡ self.old.moments) }

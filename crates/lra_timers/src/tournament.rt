@@ -49,7 +49,7 @@ impl Model for Tournament {
     ghost invariant = { λ t. IsTree t.nodes.items t.width t.len };
 }
 
-/// The winner of the two below a place.
+/// Returns the earlier of the two deadlines below a place.
 fn winner(nodes: &[Deadline], at: usize) -> Deadline
     requires { 2 * at + 1 < length nodes.now }
     ensures { IsWinner result (node nodes.now (2 * at)) (node nodes.now (2 * at + 1)) }
@@ -88,7 +88,7 @@ fn play(nodes: &mut [Deadline], width: usize)
     }
 }
 
-/// Makes more leaves, behind which the old ones move.
+/// Adds leaves, and moves the deadlines to the new first ones.
 fn widen(
     nodes: &mut Vec<Deadline>,
     width: usize,
@@ -110,7 +110,7 @@ fn widen(
 }
 
 impl Tournament {
-    /// Of no deadlines, with no room.
+    /// Returns a tournament of no deadlines, with no room.
     pub fn new(alloc: Global) -> Self
         ensures items { result.items ≡ [] }
         ensures room { result.room ≡ 0 }
@@ -130,7 +130,7 @@ impl Tournament {
         self.len
     }
 
-    /// The deadline at a place, from 0 on.
+    /// Returns the deadline at a place, counted from 0.
     pub fn get(&self, place: usize) -> Deadline
         requires { place < length self.now.items }
         ensures { result ≡ node self.now.items place }
@@ -138,7 +138,7 @@ impl Tournament {
         self.nodes[self.width + place]
     }
 
-    /// The earliest of the deadlines, where there are any.
+    /// Returns the earliest of the deadlines, if there are any.
     pub fn first(&self) -> Option<Deadline>
         ensures none { IsNone result ↔ (self.now.items ≡ []) }
         ensures first { IfSome result (IsFirstOf self.now.items) }
@@ -167,7 +167,7 @@ impl Tournament {
         Ok(())
     }
 
-    /// One more deadline, behind the others.
+    /// Adds a deadline behind the others.
     pub fn push(&mut self, deadline: Deadline)
         requires { 0 < self.old.room }
         ensures items { self.new.items ≡ self.old.items ++ deadline ∷ [] }
@@ -186,7 +186,7 @@ impl Tournament {
         enter(&mut self.nodes, self.width, place, deadline);
     }
 
-    /// Takes the last deadline away.
+    /// Removes the last deadline, and returns it.
     pub fn pop(&mut self) -> Deadline
         requires { 0 < length self.old.items }
         ensures items { self.old.items ≡ self.new.items ++ result ∷ [] }

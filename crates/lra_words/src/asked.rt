@@ -1,16 +1,16 @@
-//! Which journal the words of a command line ask to audit.
+//! The journal that the words of a command line ask to audit.
 
 ghost use Rattle.std.specs.Prelude.{◌≡◌, ◌≢◌, ◌∷◌, [], ℕ, List, IfOk, IfErr, IfSome, IfNone, codes};
 ghost use Rattle.lra_words.specs.Asked.{texts};
 
 use thiserror::Error;
 
-/// The words ask for nothing.
+/// The fault of words that ask for no audit.
 #[derive(Clone, Copy, Debug, PartialEq, Eq, Error)]
 #[error("the words ask for nothing")]
 pub struct Usage;
 
-/// The file that these words ask to audit, without the program's own name; or none for standard input.
+/// Returns the file that these words ask to audit, or None for standard input. The program's own name isn't among them.
 pub fn read_audit(words: &[String]) -> Result<Option<&str>, Usage>
     ensures input { IfOk result (λ file. IfNone file (texts words.now ≡ [])) }
     ensures file { IfOk result (λ file. IfSome file (λ name. texts words.now ≡ codes "audit" ∷ name.now ∷ [])) }

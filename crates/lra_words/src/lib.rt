@@ -1,4 +1,4 @@
-//! The words of a command line: how they are had, and which journal they ask to audit.
+//! The words of a command line: how they are read, and which journal they ask to audit.
 #![tactic(auto)]
 
 mod asked;

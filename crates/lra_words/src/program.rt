@@ -1,14 +1,14 @@
-//! The reading of a program's words from the system, which tells on standard error where it fails.
+//! The reader of a program's words from the system. It writes to standard error if it fails.
 
 ghost use Rattle.std.specs.Prelude.{◌≡◌, IfErr};
 
 use std::rt::Env;
 use std::{env, io};
 
-/// The status of a run that has no answer.
+/// The exit status of a run that has no result.
 const FAULT: u8 = 2;
 
-/// Tells that the words of the command line ask for nothing. The answer is the program's status.
+/// Writes `lra: usage` to standard error, and returns the program's exit status.
 pub fn tell_usage<R: Eprint>(rt: &R) -> u8
     ensures { result ≡ FAULT }
 {
@@ -16,8 +16,8 @@ pub fn tell_usage<R: Eprint>(rt: &R) -> u8
     FAULT
 }
 
-/// The words of the command line, without the program's own name; or the program's status where they can't be had,
-/// which is told.
+/// Returns the words of the command line, without the program's own name. If they can't be read, writes the fault to
+/// standard error and returns the program's exit status.
 pub fn words_of<R: AllocGlobal + Env + Eprint>(rt: &R) -> Result<Vec<String>, u8>
     ensures { IfErr result (λ status. status ≡ FAULT) }
 {

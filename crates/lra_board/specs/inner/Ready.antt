@@ -27,7 +27,7 @@ pub record MarkedBut (s : State) (r : Ready) (ps xs : List ℕ) : Type 0 where
   pub turns : (a : ℕ) → is_among xs a ≡ false → mark_at r.turns.marked a ≡ is_some (turn_by s a)
   pub ends : (a : ℕ) → is_among xs a ≡ false → mark_at r.ends.marked a ≡ is_some (end_by s a)
 
--- there is room for as many numbers
+-- there is room for as many numbers as before
 pub record SameRoom (before after : Ready) : Type 0 where
   pub skips : after.skips.room ≡ before.skips.room
   pub turns : after.turns.room ≡ before.turns.room
@@ -64,7 +64,7 @@ has_numbers (Start a parent limit) r = nat_lt 0 (length r.turns.marked) && nat_l
 has_numbers (Join p a uris) r = nat_lt 0 (length r.skips.marked)
 has_numbers _ r = true
 
--- without the last number
+-- one number less, which gives its room back
 abbrev pub popped : Marking → Marking
 popped m = record m { marked = without_last m.marked; room = m.room + 1 }
 

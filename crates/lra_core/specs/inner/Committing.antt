@@ -7,7 +7,7 @@ use Rattle.lra_core.specs.declared.block.Committed.{Committed}
 use Rattle.lra_core.specs.Shape.{Shape}
 use Rattle.lra_core.specs.Performs.{IsDone, IsRefused}
 
--- a call was done, and what it gave beside its answer
+-- a call was done, and what it gave besides its answer
 pub record IsCommitted (before : Shape) (c : Call) (after : Shape) (x : Committed) : Type 0 where
   pub done : IsDone before c after x.told
   pub errand : x.errand ≡ errand_of before.setting before.history c

@@ -1,4 +1,4 @@
--- What a coordinator keeps beside its entries.
+-- What a coordinator keeps besides its entries.
 use Rattle.std.specs.Prelude.{◌≡◌}
 use Rattle.lra_model.specs.History.{History}
 use Rattle.lra_laws.specs.Sheets.{sheet_of}

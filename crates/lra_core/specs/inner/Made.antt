@@ -29,7 +29,7 @@ ask_in e = by_deed e.deed
     by_deed (deed.Ask n p kind) = Some (record { number = n; member = p; kind = kind })
     by_deed _ = None
 
--- what the errand of an ask says that is wanted at a history
+-- the contents of the errand of an ask that is wanted at a history
 abbrev pub asking_at : Setting → History → Ask → Asking
 asking_at g J a = asking_of g.instance g.base J
     (record { number = a.number; member = a.member; kind = a.kind; direction = ask_direction J a.member a.kind })
@@ -39,7 +39,7 @@ pub record IsWriting (s : Terms) (J : History) (c : Call) (e : Entry) : Type 0 w
   pub call : IsCall c
   pub writes : IsWritten s J c e
 
--- a command writes an entry, whoever gives it and whenever
+-- a command writes an entry, whichever clerk gives it and at whatever moment
 pub record WritesSome (s : Terms) (J : History) (o : Command) (e : Entry) : Type 0 where
   pub by : ℕ
   pub moment : ℕ
@@ -54,8 +54,8 @@ pub record IsReady (c : Shape) (k : Call) (b : Written) : Type 0 where
 abbrev pub IsMade : Shape → Call → Result Written Refusal → Type 0
 IsMade c k result = MatchResult result (IsReady c k) (IsRefusal (terms_of c.setting) c.history k)
 
--- what a block has beside its plan is copied and spelled from that and from the ask that it makes, at the coordinator's
--- history, which has room for it
+-- what a block has besides its plan is copied and spelled from that and from the ask that it makes, at the
+-- coordinator's history, which has room for it
 pub record ArePartsOf (c : Shape) (plan : Planned) (a : Option Ask) (p : Parts) : Type 0 where
   pub members : p.members.items ≡ plan.members
   pub actions : p.actions.items ≡ plan.actions
@@ -64,7 +64,7 @@ pub record ArePartsOf (c : Shape) (plan : Planned) (a : Option Ask) (p : Parts) 
   pub entries : length plan.entries ≤ c.room.entries
   pub moments : length plan.members + length plan.actions ≤ c.room.moments
 
--- a block is assembled of what is told, its entries and the ask that it makes, at the coordinator's history, which has
+-- a block is assembled of its answer, its entries and the ask that it makes, at the coordinator's history, which has
 -- room for it
 pub record IsAssembled (c : Shape) (t : Told) (es : List Entry) (a : Option Ask) (b : Written) : Type 0 where
   pub told : b.told ≡ t

@@ -1,4 +1,4 @@
--- Who holds which ask, beside the members' rows.
+-- The member of each ask, beside the members' rows.
 use Rattle.std.specs.Prelude.{◌≡◌, ℕ, ◌≤◌, true, false, List, Option, Some}
 use Rattle.std.specs.Option.{option_map_or}
 use Rattle.lra_laws.specs.Rows.{MemberRow}

@@ -9,7 +9,7 @@ use Rattle.std.specs.declared.hash.BuildHasherDefault.{BuildHasherDefault}
 abbrev pub Numbers : Type 0
 Numbers = HashMap (ℕ × ℕ) ℕ (BuildHasherDefault FoldHasher)
 
--- whether two keys are one
+-- whether two keys are equal
 abbrev pub same_rank : ℕ × ℕ → ℕ × ℕ → Bool
 same_rank p q = nat_eq p.0 q.0 && nat_eq p.1 q.1
 

@@ -34,7 +34,7 @@ waits_for_action _ s = false
 abbrev pub can_compensate : History → ℕ → Bool
 can_compensate J p = option_map_or (λ (u : Addresses). is_some u.compensate) (found_addresses J p) false
 
--- whether an action waits for a member, by its row: it hasn't left
+-- whether an action waits for a member, by its row: not once it has left
 abbrev pub waits_for_row : ActionStatus → MemberRow → Bool
 waits_for_row status r = not (has_gone r.status) && waits_for_member status r.status
 
@@ -46,7 +46,7 @@ waits_for_found status J p = option_map_or (waits_for_row status) (found_member 
 abbrev pub found_status : History → ℕ → ActionStatus
 found_status J b = option_map_or (λ (r : ActionRow). r.status) (found_action J b) action.Active
 
--- whether a row holds the end of an action with a status
+-- whether a row blocks the end of an action with a status
 abbrev pub held : ActionStatus → History → Awaited → Bool
 held status J (awaited.Member p ask) = can_compensate J p && waits_for_found status J p
 held status J (awaited.Action b) = waits_for_action status (found_status J b)
@@ -63,6 +63,6 @@ member_row J p = awaited.Member p (found_ask J p)
 abbrev pub found_rows : History → ℕ → List Awaited
 found_rows J a = map (member_row J) (members_of J a) ++ map awaited.Action (children J a)
 
--- what is told of the row at a place, if there is one that holds the end of an action with a status
+-- what a query returns of the row at a place, if there is one that blocks the end of an action with a status
 abbrev pub look_awaited : History → ℕ → ActionStatus → ℕ → Option Known
 look_awaited J a status place = told_at (held status J) known.Awaits place (slice_get (found_rows J a) place)

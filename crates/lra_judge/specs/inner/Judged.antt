@@ -89,7 +89,7 @@ near m limit = required (is_moment (m + limit)) refusal.LimitTooFar
 abbrev pub written : ℕ → ℕ → Deed → Decision
 written by m d = decision.Write (record { by = by; moment = m; deed = d })
 
--- a command writes nothing, and is told so
+-- a command writes nothing, and returns this
 abbrev pub told_so : Told → Judged
 told_so t = Ok (decision.Told t)
 
@@ -108,7 +108,7 @@ enrol l J m = do
 
 -- ---- actions
 
--- how deep the action above a new one is nested, where it is Active; 0 where there is to be none
+-- how deep a new action's parent is nested, which has to be Active; 0 where there is to be none
 abbrev pub depth_above : History → Option ℕ → Result ℕ Refusal
 depth_above J None = Ok 0
 depth_above J (Some b) = do
@@ -149,17 +149,17 @@ close J by m a = do
   r ← known_action J a
   close_at by m a r.status
 
--- whether there is an action above and it is Active
+-- whether there is a parent and it is Active
 abbrev pub is_open_above : History → Option ℕ → Bool
 is_open_above J o = option_map_or (λ b. option_map_or (λ (r : ActionRow). is_active r.status) (found_action J b) false)
     o false
 
--- whether the version lets a client take back what has closed
+-- whether the version lets a client cancel what has closed
 abbrev pub takes_back : Version → Bool
 takes_back version.One = false
 takes_back version.Two = true
 
--- a cancel, by the action's status and whether it may be taken back once it has closed
+-- a cancel, by the action's status and whether it may be cancelled once it has closed
 abbrev pub cancel_at : ℕ → ℕ → ℕ → ActionStatus → Bool → Judged
 cancel_at by m a action.Active back = Ok (written by m (deed.Cancel a cause.Client))
 cancel_at by m a action.Closed back = cond back (Ok (written by m (deed.Cancel a cause.Client)))
@@ -181,7 +181,7 @@ tick J by m late = do
   _ ← known_clerk J by
   Ok (option_map_or (λ a. written by m (deed.Cancel a cause.Limit)) late (decision.Told told.Idle))
 
--- that the version has renewed limits
+-- that the version allows renewals of limits
 abbrev pub newer : Version → Result (Unit {0}) Refusal
 newer version.One = Err refusal.OldJournal
 newer version.Two = Ok tt
@@ -215,11 +215,11 @@ join_with l J by m a u =
     option_map_or (λ p. told_so (told.AlreadyMember p)) (already_member J a u)
     (new_member l J >>= λ p. Ok (written by m (deed.Join p a u)))
 
--- the same, by what reading the addresses comes to
+-- the same, by the result of reading the addresses
 abbrev pub join_read : Limits → History → ℕ → ℕ → ℕ → Result Addresses Refusal → Judged
 join_read l J by m a read = read >>= join_with l J by m a
 
--- a join, by whether the clerk may let members join, and what reading the addresses comes to
+-- a join, by whether the clerk may let members join, and the result of reading the addresses
 abbrev pub IsJoin : Limits → History → ℕ → ℕ → ℕ → Addresses → Judged → Result (Unit {0}) Refusal → Type 0
 IsJoin l J by m a u result (Err r) = result ≡ Err r
 IsJoin l J by m a u result (Ok x) = (read : Result Addresses Refusal) × IsReading u read
@@ -251,7 +251,7 @@ has_told x ending.FailedToComplete = is_some x.completion
 has_told x ending.Compensated = is_some x.compensation
 has_told x ending.FailedToCompensate = is_some x.compensation
 
--- whether a member is being asked for what it tells
+-- whether a member is being asked for the ending that it reports
 abbrev pub is_awaited : MemberStatus → Ending → Bool
 is_awaited status ending.Completed = is_completing status
 is_awaited status ending.FailedToComplete = is_completing status
@@ -293,12 +293,12 @@ next_ask J by m due = do
   _ ← known_clerk J by
   Ok (option_map_or (λ p. ask_for J by m p (wanted_by J p)) due (decision.Told told.Idle))
 
--- whether an ask is outstanding and the errand's
+-- whether an ask is outstanding, and has the errand's member, kind and direction
 abbrev pub is_carried : Carried → AskRow → Bool
 is_carried e r = r.outstanding && ((r.member == e.member) && same_kind r.kind e.kind
     && same_direction r.direction e.direction)
 
--- that an ask is outstanding and the errand's
+-- that the errand's ask is outstanding, and has its member, kind and direction
 abbrev pub awaited : History → Carried → Result (Unit {0}) Refusal
 awaited J e = required (option_map_or (is_carried e) (found_ask J e.ask) false) refusal.NotAsked
 

@@ -39,12 +39,12 @@ count_listed J (listing.Members a) = length (members_of J a)
 count_listed J (listing.Nested a) = length (children J a)
 count_listed J (listing.Actions status) = length (actions J)
 
--- the row at a place: of all actions, that of the number after it
+-- the row at a place, if there is one: of all actions, that of the number after it
 abbrev pub row_at : Limits → History → Listing → ℕ → Option Row
 row_at l J (listing.Members a) place = option_and_then (member_found l J) (slice_get (members_of J a) place)
 row_at l J (listing.Nested a) place = option_and_then (action_found J) (slice_get (children J a) place)
 row_at l J (listing.Actions status) place = action_found J (place + 1)
 
--- what is told of the row at a place, if there is one that belongs to the listing
+-- what a query returns of the row at a place, if there is one that belongs to the listing
 abbrev pub look_listed : Limits → History → Listing → ℕ → Option Known
 look_listed l J x place = told_at (belongs x) known.Row place (row_at l J x place)

@@ -26,7 +26,7 @@ has_enough u = is_some u.compensate || (is_some u.after && is_none u.complete &&
 abbrev pub are_readable : Addresses → Bool
 are_readable u = addresses_fit reads u
 
--- what reading the addresses of a member comes to: as they are stored, or that they don't fit, unless memory ran out
+-- the result of reading a member's addresses: as they are stored, or that they don't fit, unless memory ran out
 abbrev pub IsReading : Addresses → Result Addresses Refusal → Type 0
 IsReading u (Ok own) = (own ≡ stored_addresses u) × (are_readable u ≡ true)
 IsReading u (Err r) = r ≢ refusal.Memory → (r ≡ refusal.BadAddresses) × (are_readable u ≡ false)

@@ -1,4 +1,4 @@
--- Rows from a place on, and what is told of them.
+-- Rows from a place on, and what a query returns of them.
 use Rattle.std.specs.Prelude.{◌≡◌, ℕ, zero, suc, ◌+◌, nat_lt, length, Option, unwrap_or, cond}
 use Rattle.lra_model.specs.History.{History}
 use Rattle.lra_commands.specs.declared.query.Known.{Known}
@@ -11,7 +11,7 @@ use Rattle.lra_judge.specs.declared.walk.Walk.TheVariants as walk
 use Rattle.lra_judge.specs.inner.Awaited.{found_rows, look_awaited}
 use Rattle.lra_judge.specs.inner.Listed.{count_listed, look_listed}
 
--- what is told first from a place on, of so many places, or else what is told where nothing is
+-- what is returned first from a place on, of so many places, or else what is returned where nothing is found
 unfoldable pub first_some : (ℕ → Option Known) → Known → ℕ → ℕ → Known
 first_some look none at zero = none
 first_some look none at (suc n) = unwrap_or (look at) (first_some look none (at + 1) n)
@@ -21,21 +21,21 @@ abbrev pub count_rows : History → Walk → ℕ
 count_rows J (walk.Awaited a status) = length (found_rows J a)
 count_rows J (walk.Listed l) = count_listed J l
 
--- what is told of the row at a place, if there is one that is told
+-- what a query returns of the row at a place, if it returns anything
 abbrev pub look : Limits → History → Walk → ℕ → Option Known
 look l J (walk.Awaited a status) place = look_awaited J a status place
 look l J (walk.Listed x) place = look_listed l J x place
 
--- what is told where no row from any place on is
+-- what a query returns where it returns no row from any place on
 abbrev pub last_of : Walk → Known
 last_of (walk.Awaited a status) = known.AwaitsNothing
 last_of (walk.Listed l) = known.NoMore
 
--- what is told where none of the rows looked at is, of so many
+-- what a query returns where it returns none of the rows looked at, of so many
 abbrev pub none_told : Known → ℕ → ℕ → Known
 none_told last rows place = cond (nat_lt (place + most_rows) rows) (known.Further (place + most_rows)) last
 
--- what is told from a place on is what the query is told, along the rows of an action by its status
+-- what is found from a place on is what the query returns, along the rows of an action by its status
 abbrev pub IsTold : Limits → History → Walk → ℕ → Known → Type 0
 IsTold l J (walk.Awaited a status) place k = status ≡ status_at J a → k ≡ awaited_from J a place
 IsTold l J (walk.Listed x) place k = k ≡ row_from l J x place

@@ -1,4 +1,4 @@
--- Which members and actions a deed may change what settles next of.
+-- The members and actions of which a deed may change what settles next.
 use Rattle.std.specs.Prelude.{ℕ, List, [], ◌∷◌, ◌++◌, option_to_list}
 use Rattle.std.specs.Option.{option_map_or}
 use Rattle.lra_model.specs.declared.entry.Deed.{Deed}
@@ -8,7 +8,7 @@ use Rattle.lra_model.specs.History.{History}
 use Rattle.lra_model.specs.Actions.{parent, children, members_of}
 use Rattle.lra_model.specs.Members.{Asked, ask_of, action_of}
 
--- the members that a deed may let be skipped, or no longer
+-- the members for which a deed may change whether they may be skipped
 abbrev pub members_concerned : History → Deed → List ℕ
 members_concerned J (Join p a uris) = p ∷ []
 members_concerned J (Leave p) = p ∷ []
@@ -25,7 +25,7 @@ members_concerned J _ = []
 abbrev pub around : History → ℕ → List ℕ
 around J a = a ∷ (option_to_list (parent J a) ++ children J a)
 
--- the actions that a deed may let end or be turned by their parent, or no longer
+-- the actions for which a deed may change whether they may end, or be closed or cancelled by their parent
 abbrev pub actions_concerned : History → Deed → List ℕ
 actions_concerned J (Start c parent limit) = c ∷ option_to_list parent
 actions_concerned J (Join p a uris) = a ∷ []

@@ -7,7 +7,7 @@ use Rattle.lra_model.specs.Facts.{ActionFacts, MemberFacts, Facts}
 use Rattle.lra_laws.specs.Rows.{Standing, MemberRow, ActionRow, State, row_at, stands_as}
 use Rattle.lra_laws.specs.Ends.{settled_by, right_end_by}
 
--- what the rules ask of an action, by its row
+-- what the rules read of an action, by its row
 abbrev pub action_by : State → ActionRow → ActionFacts
 action_by s r = record {
   parent = r.parent;
@@ -22,7 +22,7 @@ action_by s r = record {
 abbrev pub is_standing : ℕ → MemberRow → Bool
 is_standing void r = option_map_or (λ (x : Standing). nat_lt void x.number) r.asked false
 
--- what the rules ask of a member, by its row
+-- what the rules read of a member, by its row
 abbrev pub member_by : State → MemberRow → MemberFacts
 member_by s r = record {
   action = r.action;
@@ -39,7 +39,7 @@ member_by s r = record {
 abbrev pub member_asked : State → ℕ → Option MemberRow
 member_asked s n = cond (nat_lt s.void n) (find (stands_as n) s.members) None
 
--- all that the rules ask, by the rows
+-- all that the rules read, by the rows
 abbrev pub facts_by : State → Facts
 facts_by s = record {
   moment = s.moment;

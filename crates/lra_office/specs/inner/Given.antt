@@ -20,7 +20,7 @@ abbrev pub IsGiven : {O : Type 0} → Setting → View O → Call → Result Com
 IsGiven g v c (Ok r) w = IsGrown g v c r.told r.errand w
 IsGiven g v c (Err r) w = IsNotGiven g v c r w
 
--- who enrols has no number yet; every other command is given under the number that one has
+-- the pass of an enrolment has no number yet; every other command is given under the number of its pass
 abbrev pub IsNumberOf : Command → ℕ → ℕ → Type 0
 IsNumberOf Enrol by number = number ≡ 0
 IsNumberOf c by number = (by ≡ number) × (number ≢ 0)

@@ -6,7 +6,7 @@ use Rattle.lra_rows.specs.declared.step.Added.TheVariants as added
 use Rattle.lra_rows.specs.Rowed.{Rowed}
 use Rattle.lra_rows.specs.Steps.{Counts, Writes, taken_back}
 
--- the rows with another sheet
+-- the rows with another snapshot
 abbrev pub with_sheet : Rowed → Sheet → Rowed
 with_sheet r s = record r { sheet = s }
 
@@ -14,7 +14,7 @@ with_sheet r s = record r { sheet = s }
 abbrev pub with_state : Rowed → State → Rowed
 with_state r s = record r { sheet = record r.sheet { state = s } }
 
--- what is counted, by a sheet
+-- what is counted, by a snapshot
 abbrev pub counts_of : Sheet → Counts
 counts_of s = record {
   entries = s.entries;
@@ -24,10 +24,10 @@ counts_of s = record {
   void = s.state.void;
 }
 
--- what was written, and what was added, takes the rows back to what they were
+-- what was written over and added takes the rows back to what they were
 abbrev pub Undoes : Writes → Rowed → Rowed → Type 0
 Undoes w new old = taken_back (record { before = counts_of old.sheet; writes = w }) new ≡ old
 
--- what was written of a member and its action, and nothing was added
+-- at most a member's row and its action's were written over, and nothing was added
 abbrev pub IsOfMember : Writes → Type 0
 IsOfMember w = (w.parent ≡ None) × ((w.repeats ≡ None) × (w.added ≡ added.Nothing))

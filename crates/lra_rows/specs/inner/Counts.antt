@@ -1,4 +1,4 @@
--- What the counts of a sheet are at most, so that one more entry can raise each by one.
+-- What the counts of a snapshot are at most, so that one more entry can raise each by one.
 use Rattle.std.specs.Prelude.{◌≡◌, ℕ, ◌^◌, ◌<◌, ◌≤◌, length, IfSome}
 use Rattle.lra_laws.specs.Rows.{row_at}
 use Rattle.lra_laws.specs.Sheets.{Nest, Contact, Sheet}

@@ -1,4 +1,4 @@
--- What a sheet has of a number.
+-- What a snapshot has of a number.
 use Rattle.std.specs.Prelude.{ℕ, ◌==◌, cond, ◌&&◌, nat_le, nat_lt, Bool, false, List, [], Option, Some, None}
 use Rattle.std.specs.Prelude.{option_map}
 use Rattle.std.specs.Option.{option_map_or, option_and_then}
@@ -33,7 +33,7 @@ held_action s a =
 abbrev pub held_outstanding : Sheet → laws.MemberRow → Option ℕ
 held_outstanding s r = option_map_or (λ (x : Standing). when (nat_lt s.state.void x.number) x.number) r.asked None
 
--- a member's repeats in a stage; a status ask is none
+-- a member's repeats in a stage; a status ask has none
 abbrev pub repeats_at : AskKind → Contact → Repeats
 repeats_at ask.Complete c = c.completing
 repeats_at ask.Compensate c = c.compensating
@@ -47,7 +47,7 @@ held_repeats s p r =
     option_map_or (λ (kind : AskKind). option_map_or (repeats_at (stage_of kind (way_asked kind r.status)))
     (row_at s.contacts p) no_repeats) (wanted (facts_by s.state) (member_by s.state r)) no_repeats
 
--- when the last of some repeats was
+-- when the last of some repeats was, if there is one
 abbrev pub last_of : Repeats → Option ℕ
 last_of r = cond (r.count == 0) None (Some r.last)
 
@@ -91,7 +91,7 @@ held_children s a = option_map_or (λ (x : Nest). x.children) (row_at s.nests a)
 abbrev pub held_members : Sheet → ℕ → List ℕ
 held_members s a = option_map_or (λ (x : Nest). x.members) (row_at s.nests a) []
 
--- the members of all that stand in an action
+-- the members of an outermost action and of all below it
 abbrev pub held_under : Sheet → ℕ → List ℕ
 held_under s a = option_map_or (λ (x : Nest). x.under) (row_at s.nests a) []
 

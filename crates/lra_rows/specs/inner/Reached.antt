@@ -1,4 +1,4 @@
--- How members are reached, with whether there are places for their repeats.
+-- The endpoints of members, with whether there are places for their repeats.
 use Rattle.std.specs.Prelude.{ℕ, Bool, cond, List, map, Option}
 use Rattle.std.specs.Option.{option_map_or}
 use Rattle.lra_model.specs.declared.asks.AskKind.{AskKind}
@@ -20,7 +20,7 @@ pub record Stages : Type 0 where
 abbrev pub no_stages : Stages
 no_stages = record { completing = no_repeats; compensating = no_repeats; forgetting = no_repeats; telling = no_repeats }
 
--- how a member is reached that has these repeats
+-- the endpoint of a member that has these repeats
 abbrev pub contact_with : Addresses → Stages → Contact
 contact_with uris s = record {
   addresses = uris;
@@ -31,12 +31,12 @@ contact_with uris s = record {
   telling = s.telling;
 }
 
--- how a member is reached, and whether there is a place for its repeats
+-- the endpoint of a member, and whether there is a place for its repeats
 pub record Reached : Type 0 where
   pub contact : Contact
   pub is_ready : Bool
 
--- how each is reached
+-- the endpoint of each
 abbrev pub contacts_in : List Reached → List Contact
 contacts_in rows = map (λ (r : Reached). r.contact) rows
 
@@ -44,7 +44,7 @@ contacts_in rows = map (λ (r : Reached). r.contact) rows
 abbrev pub ready_in : List Reached → List Bool
 ready_in rows = map (λ (r : Reached). r.is_ready) rows
 
--- a member that answers
+-- a member's endpoint after the outcome of an ask
 abbrev pub answered : ℕ → Outcome → Asked → Reached → Reached
 answered m o x r = record r { contact = with_answer m o x r.contact }
 
@@ -56,7 +56,7 @@ with_stage stage repeats r = record r { contact = cond r.is_ready (with_repeats 
 abbrev pub stages_back : Option Repeated → List Reached → List Reached
 stages_back o rows = option_map_or (λ (x : Repeated). change_row (with_stage x.stage x.repeats) x.member rows) o rows
 
--- contacts, how many are held with no more memory, and for whose repeats there are places
+-- endpoints, how many are held with no more memory, and for whose repeats there are places
 pub record Reachable : Type 0 where
   pub items : List Contact
   pub capacity : ℕ

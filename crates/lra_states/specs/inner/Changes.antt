@@ -17,7 +17,7 @@ AllCanCount rows = AllCountTo (2 ^ 64 - 2) rows
 abbrev pub with_row : {R : Type 0} → ℕ → R → List R → List R
 with_row n r rows = change_row (λ _. r) n rows
 
--- one that enrols has the next clerk's number, and an ask the next ask's
+-- a clerk that enrols has the next clerk's number, and an ask the next ask's
 abbrev pub TakesNextNumber : State → Deed → ℕ → Type 0
 TakesNextNumber s Enrol by = by ≡ s.clerks + 1
 TakesNextNumber s (Ask n p kind) by = n ≡ s.asks + 1

@@ -17,11 +17,11 @@ has_digest key digest J p = not (has_left J p) && (digest_of key (action_of J p)
 abbrev pub staying_with : ℕ → ℕ → History → List ℕ
 staying_with key digest J = filter (has_digest key digest J) (members J)
 
--- an index has them under each digest, of every history that the sheet stands for
+-- an index has these members under each digest, of every history that the snapshot stands for
 abbrev pub IsKept : Indexed → Sheet → Type 0
 IsKept i s = (J : History) → StandsFor s J → (digest : ℕ) → IsListed i digest (staying_with i.key digest J)
 
--- the index was kept before the last entry, which the sheet has already
+-- the index was kept before the last entry, which the snapshot has already
 pub record IsKeptBefore (i : Indexed) (e : Entry) (s : Sheet) : Type 0 where
   pub before : Sheet
   pub follows : Follows before e

@@ -1,4 +1,4 @@
--- Who has the same addresses.
+-- Members that have the same addresses.
 use Rattle.std.specs.Prelude.{ℕ, Bool, false, ◌==◌, ◌&&◌, not}
 use Rattle.std.specs.Option.{option_map_or}
 use Rattle.lra_model.specs.Addresses.{Addresses}

@@ -8,6 +8,6 @@ use Rattle.lra_ticket.specs.declared.view.View.{View}
 abbrev pub queued_id : {X O : Type 0} {g : Ghosts X O} → Queued X O g → TableId
 queued_id queued = queued.seat.table_id
 
--- what the one that waits knows
+-- what the waiting caller knows
 abbrev pub queued_view : {X O : Type 0} {g : Ghosts X O} → Queued X O g → View O
 queued_view queued = queued.seat.me.0

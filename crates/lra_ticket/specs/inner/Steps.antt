@@ -1,7 +1,7 @@
 -- The kinds of steps by which the lock is used, and no others. Each is a single step, and keeps the rule.
--- look, draw, watch, give, peek, grab and compare are on a word. Here is what each tells the one that makes it: of the
--- step, the seat before, the number found, and the seat after. make, split, pair, part and join are moves of seats, and
--- change views alone: `first_view` and `newcomer` in Views, and `paired`, `second` and `joined`.
+-- look, draw, watch, give, peek, grab and compare are on a word. Here is what each shows its caller: of the step, the
+-- seat before, the number found, and the seat after. make, split, pair, part and join are moves of seats, and change
+-- views alone: `first_view` and `newcomer` in Views, and `paired`, `second` and `joined`.
 use Rattle.std.specs.Prelude.{◌≡◌, ◌≢◌, ℕ, ◌+◌, List, [], ◌∷◌, Option, Some}
 use mathlib.Core.List.{IsPrefix}
 use Rattle.atomic_table.specs.Table.{Me, Step, rest}
@@ -38,7 +38,7 @@ joined v w = record v { seen = longer v.seen w.seen }
 abbrev pub peeking : {O : Type 0} → View O → ℕ → View O
 peeking v s = record v { tries = v.tries + 1; place = Peeked s }
 
--- what a view knows beside a second one, with this number and what it had seen
+-- what a view knows besides a second one, with this number and what it had seen
 pub record IsMet {O : Type 0} (v : View O) (number : ℕ) (seen : List Entry) : Type 0 where
   -- of their histories one begins the other
   pub in_line : Comparable v.seen seen
@@ -69,7 +69,7 @@ abbrev pub grabbed : {X O : Type 0} → (origin : X → O) → (history : X → 
 grabbed origin history lawful st m found n = (found ≡ st.first → Takes origin history lawful st.first m n)
     × (found ≢ st.first → n ≡ (moved m.0 (Missed st.first found), m.1))
 
--- give: the slot goes home, and the caller has seen the value's history
+-- give: the slot goes back, and the caller has seen the value's history
 abbrev pub gave : {X O : Type 0} → (X → List Entry) → Step (Option X) → Hand X O → ℕ → Hand X O → Type 0
 gave {X} history st m found n = (x : X) → m.1 ≡ (0, Some x) ∷ rest m.1 → n ≡ (given m.0 (history x), rest m.1)
 

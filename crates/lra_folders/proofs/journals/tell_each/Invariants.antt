@@ -3,7 +3,7 @@ use Rattle.lra_words.specs.Asked.{texts}
 use Rattle.lra_folders.specs.Folders.{Progress, TellsEach}
 use Rattle.lra_folders.proofs.journals.tell_each.Given as goal
 
--- what tells of the names that are left tells of all
+-- what reports on the names that are left reports on all
 abbrev pub invariant-loop-rest : goal.invariant-loop-rest
 invariant-loop-rest g l =
     ((bytes : List ℕ → List ℕ) → ((path : List ℕ) → g.S.Sources.named l.sources path ≡ Some (bytes path))

@@ -1,4 +1,4 @@
--- A front owns nothing, so it may go to another thread.
+-- A journal prefix owns nothing, so it may go to another thread.
 use denote.Param.Send.{IsSend, owning_send}
 use Rattle.lra_core.specs.contracts.front.Front.{the_row, the_type}
 
