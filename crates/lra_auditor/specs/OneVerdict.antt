@@ -4,7 +4,7 @@ use Rattle.lra_model.specs.declared.version.Version.{Version}
 use Rattle.lra_model.specs.History.{History}
 use Rattle.lra_model.specs.Rules.{is_legal}
 use Rattle.lra_journal.specs.Line.{text}
-use Rattle.lra_ids.specs.Addresses.{is_address}
+use Rattle.lra_addresses.specs.Addresses.{is_address}
 use Rattle.lra_course.specs.declared.verdict.Verdict.{Verdict}
 use Rattle.lra_course.specs.declared.verdict.Verdict.TheVariants.{Sound}
 use Rattle.lra_auditor.specs.Verdicts.{IsVerdict}

@@ -12,7 +12,7 @@ use Rattle.lra_journal.specs.Lines.{HasNoHeader, HasNoLine}
 use Rattle.lra_course.specs.declared.verdict.Verdict.{Verdict}
 use Rattle.lra_course.specs.declared.verdict.Verdict.TheVariants.{Sound, Unsound}
 use Rattle.lra_course.specs.Verdicts.{summary}
-use Rattle.lra_ids.specs.Addresses.{is_address}
+use Rattle.lra_addresses.specs.Addresses.{is_address}
 
 -- bytes are the text of a history that is legal in the version of their header
 pub record IsTextOf (v : Version) (i : ℕ) (J : History) (bytes : List ℕ) : Type 0 where

@@ -4,13 +4,14 @@ ghost use Rattle.std.specs.Prelude.{◌≡◌, ℕ, List, IfOk, IfErr, IfSome, O
 ghost use Rattle.std.specs.Io.KnownBytes.{Appends};
 ghost use Rattle.lra_auditor.specs.Verdicts.{IsFault};
 ghost use Rattle.lra_audits.specs.Faults.{NamesNoLine, IsMeasured, LeavesOutput, IsNotPut, IsOfOutput};
-ghost use Rattle.lra_audits.specs.Report.{report_of, ReportsAudit};
+ghost use Rattle.lra_audits.specs.Report.{ReportsAudit};
+ghost use Rattle.lra_verdict_lines.specs.VerdictLines.{report_of};
 
 use crate::fault::RunFault;
 use crate::input::audit_input;
 use crate::output::put;
-use crate::report::{report, status};
 use lra_auditor::{Rule, Verdict};
+use lra_verdict_lines::{report, status};
 use std::alloc::Global;
 use std::io::{Read, Write};
 

@@ -16,10 +16,10 @@ use Rattle.lra_commands.specs.declared.command.Command.TheVariants as command
 use Rattle.lra_commands.specs.declared.command.Told.TheVariants as told
 use Rattle.lra_commands.specs.declared.query.Query.{Query}
 use Rattle.lra_commands.specs.declared.query.Query.TheVariants as query
-use Rattle.lra_commands.specs.declared.query.Awaited.{Awaited}
-use Rattle.lra_commands.specs.declared.query.Awaited.TheVariants as awaited
-use Rattle.lra_commands.specs.declared.query.Known.{Known}
-use Rattle.lra_commands.specs.declared.query.Known.TheVariants as known
+use Rattle.lra_commands.specs.declared.query.Blocker.{Blocker}
+use Rattle.lra_commands.specs.declared.query.Blocker.TheVariants as awaited
+use Rattle.lra_commands.specs.declared.query.QueryResult.{QueryResult}
+use Rattle.lra_commands.specs.declared.query.QueryResult.TheVariants as known
 use Rattle.lra_commands.specs.declared.refusal.Refusal.{Refusal}
 use Rattle.lra_commands.specs.declared.refusal.Refusal.TheVariants as refusal
 use Rattle.lra_commands.specs.declared.limits.Terms.{Terms}
@@ -82,7 +82,7 @@ commands_ask s J c q h = asked s J c.by c.moment c.command q h
 
 -- ---- what a query is refused by
 
-missed : (there : Bool) (k : Known) (q r : Refusal) → known_where there k q ≡ Err r → r ≡ q
+missed : (there : Bool) (k : QueryResult) (q r : Refusal) → known_where there k q ≡ Err r → r ≡ q
 missed true k q r h = absurd cc
 missed false k q r h = cc
 
@@ -97,7 +97,7 @@ queries_miss l J (query.Count x place) r h = inl (missed (is_listed J x) _ _ r h
 -- ---- what holds the end of an action
 
 -- where no row of those that are passed on by a test fails another
-none_kept : (test done : ℕ → Bool) (f : ℕ → Awaited) (h : Awaited → Bool)
+none_kept : (test done : ℕ → Bool) (f : ℕ → Blocker) (h : Blocker → Bool)
     → ((p : ℕ) → h (f p) ≡ (test p && not (done p))) → (ps : List ℕ) → list_all done (filter test ps)
     ≡ not (list_any h (map f ps))
 none_kept test done f h e [] = refl
@@ -116,7 +116,7 @@ none_kept test done f h e (p ∷ ps) =
     turned false d r = refl
 
 -- where none fails a test
-none_left : (done : ℕ → Bool) (f : ℕ → Awaited) (h : Awaited → Bool) → ((b : ℕ) → h (f b) ≡ not (done b))
+none_left : (done : ℕ → Bool) (f : ℕ → Blocker) (h : Blocker → Bool) → ((b : ℕ) → h (f b) ≡ not (done b))
     → (bs : List ℕ) → list_all done bs ≡ not (list_any h (map f bs))
 none_left done f h e [] = refl
 none_left done f h e (b ∷ bs) = ap (λ x. done b && x) (none_left done f h e bs)
@@ -131,13 +131,13 @@ neither true y = refl
 neither false y = refl
 
 -- both of them, over the rows of an action
-rows_settle : (J : History) (a : ℕ) (h : Awaited → Bool) (done well : ℕ → Bool)
+rows_settle : (J : History) (a : ℕ) (h : Blocker → Bool) (done well : ℕ → Bool)
     → ((p : ℕ) → h (awaited.Member p (outstanding_ask J p)) ≡ (stays J p && not (done p)))
     → ((b : ℕ) → h (awaited.Action b) ≡ not (well b))
     → (list_all done (staying J a) && list_all well (children J a)) ≡ not (list_any h (rows_of J a))
 unfolding rows_of staying
 rows_settle J a h done well e k =
-    let f : ℕ → Awaited = λ p. awaited.Member p (outstanding_ask J p) in
+    let f : ℕ → Blocker = λ p. awaited.Member p (outstanding_ask J p) in
     ap (λ x. x && list_all well (children J a)) (none_kept (stays J) done f h e (members_of J a))
     ∙ ap (λ x. not (list_any h (map f (members_of J a))) && x) (none_left well awaited.Action h k (children J a))
     ∙ neither (list_any h (map f (members_of J a))) (list_any h (map awaited.Action (children J a)))

@@ -11,9 +11,9 @@ use Rattle.std.proofs.lemmas.List.Elements.{All-nil, All-cons, All-append}
 use Rattle.lra_model.specs.Addresses.{Addresses}
 use Rattle.lra_model.specs.Tests.{addresses_fit}
 use Rattle.lra_laws.proofs.Tested.{both, and_intro}
-use Rattle.lra_ids.specs.declared.fault.UriFault.{UriFault}
+use Rattle.lra_addresses.specs.declared.fault.UriFault.{UriFault}
 use Rattle.lra_ids.specs.Addresses.{address_of, is_address}
-use Rattle.lra_ids.proofs.AddressFacts.{address_is_own}
+use Rattle.lra_addresses.proofs.AddressFacts.{address_is_own}
 use Rattle.lra_commands.specs.Calls.{is_text, are_texts}
 use Rattle.lra_commands.specs.Deeds.{stored, stored_addresses}
 use lib.Utf8.{scalar, scalar_cases, encode, encodes, scalars}

@@ -11,7 +11,7 @@ use Rattle.lra_model.specs.History.{History}
 use Rattle.lra_commands.specs.declared.limits.Limits.{Limits}
 use Rattle.lra_commands.specs.declared.query.Listing.{Listing}
 use Rattle.lra_commands.specs.declared.query.Row.{Row}
-use Rattle.lra_commands.specs.declared.query.Known.TheVariants as known
+use Rattle.lra_commands.specs.declared.query.QueryResult.TheVariants as known
 use Rattle.lra_commands.specs.Queries.{most_rows, looked_at, none_told, belongs, rows_along, row_from, rows_after}
 use Rattle.lra_commands.specs.Queries.{told_on, next_of, count_from, counted_after, counted_on, ListingsAreToldWhole}
 use Rattle.lra_commands.specs.Queries.{ListingsAreCountedWhole}

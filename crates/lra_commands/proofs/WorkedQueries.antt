@@ -19,20 +19,20 @@ use Rattle.lra_model.specs.Wants.{wants, repeats}
 use Rattle.lra_laws.proofs.Worked.{at, u, c, uris, nest}
 use Rattle.lra_commands.specs.declared.query.Query.{Query}
 use Rattle.lra_commands.specs.declared.query.Query.TheVariants.{ActionStatus, MemberStatus, Awaited, Row, Count}
-use Rattle.lra_commands.specs.declared.query.Awaited.TheVariants.{Member, Action}
+use Rattle.lra_commands.specs.declared.query.Blocker.TheVariants.{Member, Action}
 use Rattle.lra_commands.specs.declared.query.Listing.TheVariants.{Members, Nested, Actions}
 use Rattle.lra_commands.specs.declared.query.Row.TheVariants as row
-use Rattle.lra_commands.specs.declared.query.Known.{Known}
-use Rattle.lra_commands.specs.declared.query.Known.TheVariants as known
-use Rattle.lra_commands.specs.declared.query.Known.TheVariants.{ActionIs, MemberIs, Awaits, AwaitsNothing, NoMore}
-use Rattle.lra_commands.specs.declared.query.Known.TheVariants.{Counted}
+use Rattle.lra_commands.specs.declared.query.QueryResult.{QueryResult}
+use Rattle.lra_commands.specs.declared.query.QueryResult.TheVariants as known
+use Rattle.lra_commands.specs.declared.query.QueryResult.TheVariants.{ActionIs, MemberIs, Awaits, AwaitsNothing, NoMore}
+use Rattle.lra_commands.specs.declared.query.QueryResult.TheVariants.{Counted}
 use Rattle.lra_commands.specs.declared.refusal.Refusal.{Refusal}
 use Rattle.lra_commands.specs.declared.refusal.Refusal.TheVariants.{NoSuchAction, NoSuchMember}
 use Rattle.lra_commands.specs.Terms.{usual}
 use Rattle.lra_commands.specs.Queries.{rows_of, awaited_from, rows_along, row_from, count_from, tell}
 
 -- what queries are told, in their order
-abbrev told : History → List Query → List (Result Known Refusal)
+abbrev told : History → List Query → List (Result QueryResult Refusal)
 told J qs = map (tell usual J) qs
 
 -- an action that closes waits for the one nested in it, and that for its member
@@ -109,7 +109,7 @@ unfolding steps actions members parent action_status children members_of address
 lists_actions = refl
 
 -- what a member is to be asked: at once, and again after a pause, which gets longer
-abbrev of_member : List Entry → List (Result Known Refusal)
+abbrev of_member : List Entry → List (Result QueryResult Refusal)
 of_member later = told (nest ++ at 3 (Close 2 cause.Client) ∷ later) (Row (Members 2) 0 ∷ [])
 
 pub tells_wants : of_member [] ++ of_member (at 4 (Ask 1 1 ask.Complete) ∷ at 5 (Reply 1 outcome.Silent) ∷ [])

@@ -19,15 +19,15 @@ use Rattle.lra_commands.specs.declared.command.Told.{Told}
 use Rattle.lra_commands.specs.declared.command.Told.TheVariants as told
 use Rattle.lra_commands.specs.declared.query.Query.{Query}
 use Rattle.lra_commands.specs.declared.query.Query.TheVariants as query
-use Rattle.lra_commands.specs.declared.query.Awaited.{Awaited}
-use Rattle.lra_commands.specs.declared.query.Awaited.TheVariants as awaited
+use Rattle.lra_commands.specs.declared.query.Blocker.{Blocker}
+use Rattle.lra_commands.specs.declared.query.Blocker.TheVariants as awaited
 use Rattle.lra_commands.specs.declared.query.Listing.{Listing}
 use Rattle.lra_commands.specs.declared.query.Listing.TheVariants as listing
 use Rattle.lra_commands.specs.declared.query.Row.{Row}
 use Rattle.lra_commands.specs.declared.query.Row.TheVariants as row
 use Rattle.lra_commands.specs.declared.query.Want.{Want}
-use Rattle.lra_commands.specs.declared.query.Known.{Known}
-use Rattle.lra_commands.specs.declared.query.Known.TheVariants as known
+use Rattle.lra_commands.specs.declared.query.QueryResult.{QueryResult}
+use Rattle.lra_commands.specs.declared.query.QueryResult.TheVariants as known
 use Rattle.lra_commands.specs.declared.refusal.Refusal.{Refusal}
 use Rattle.lra_commands.specs.declared.refusal.Refusal.TheVariants as refusal
 use Rattle.lra_commands.specs.declared.limits.Limits.{Limits}
@@ -49,12 +49,12 @@ abbrev pub looked_at : {X : Type 0} → List X → ℕ → List X
 looked_at xs place = take most_rows (drop place xs)
 
 -- the result where none of the rows looked at passes: where to go on, unless those were the last
-abbrev pub none_told : {X : Type 0} → Known → List X → ℕ → Known
+abbrev pub none_told : {X : Type 0} → QueryResult → List X → ℕ → QueryResult
 none_told last xs place = cond (nat_lt (place + most_rows) (length xs)) (known.Further (place + most_rows)) last
 
 -- the result for rows from a place on: the first of those looked at that passes a test, with its place (this project's
 -- choice)
-abbrev pub first_from : {X : Type 0} → (X → Bool) → (ℕ → X → Known) → Known → List X → ℕ → Known
+abbrev pub first_from : {X : Type 0} → (X → Bool) → (ℕ → X → QueryResult) → QueryResult → List X → ℕ → QueryResult
 first_from test told last xs place = option_map_or (told (place + position_or_len test (looked_at xs place)))
     (find test (looked_at xs place)) (none_told last xs place)
 
@@ -62,13 +62,13 @@ first_from test told last xs place = option_map_or (told (place + position_or_le
 
 -- the rows of an action: its members, those that left among them, each with the ask of it that is outstanding, and then
 -- the actions nested directly in it (this project's choice of order)
-unfoldable pub rows_of : History → ℕ → List Awaited
+unfoldable pub rows_of : History → ℕ → List Blocker
 rows_of J a = map (λ p. awaited.Member p (outstanding_ask J p)) (members_of J a) ++ map awaited.Action (children J a)
 
 -- whether a row holds the end of an action that has a status: of a Closing one a member that stays and is not done
 -- completing, or a nested action that hasn't ended; of a Cancelling one a member that stays and is not done
 -- compensating, or a nested action that hasn't finished cancelling (MicroProfile LRA 2.0, LRAStatus)
-abbrev pub holds_end : ActionStatus → History → Awaited → Bool
+abbrev pub holds_end : ActionStatus → History → Blocker → Bool
 holds_end action.Closing J (awaited.Member p ask) = stays J p && not (is_done_completing (member_status J p))
 holds_end action.Closing J (awaited.Action b) = not (action_is has_ended J b)
 holds_end action.Cancelling J (awaited.Member p ask) = stays J p && not (is_done_compensating (member_status J p))
@@ -76,7 +76,7 @@ holds_end action.Cancelling J (awaited.Action b) = not (action_is has_finished_c
 holds_end _ J row = false
 
 -- what an action waits for, from a place on: the first of the rows looked at that holds its end (this project's choice)
-unfoldable pub awaited_from : History → ℕ → ℕ → Known
+unfoldable pub awaited_from : History → ℕ → ℕ → QueryResult
 awaited_from J a place = first_from (holds_end (status_at J a) J) known.Awaits known.AwaitsNothing (rows_of J a) place
 
 -- ---- listings
@@ -115,7 +115,7 @@ belongs (listing.Actions (Some status)) (row.Action a now parent) = same_status 
 belongs _ _ = true
 
 -- the next row of a listing, from a place on (this project's choice)
-unfoldable pub row_from : Limits → History → Listing → ℕ → Known
+unfoldable pub row_from : Limits → History → Listing → ℕ → QueryResult
 row_from l J x place = first_from (belongs x) known.Row known.NoMore (rows_along l J x) place
 
 -- where to go on from a place, of so many rows, unless all of them were looked at
@@ -123,7 +123,7 @@ abbrev pub next_of : ℕ → ℕ → Option ℕ
 next_of rows place = when (nat_lt (place + most_rows) rows) (place + most_rows)
 
 -- how many of the rows looked at from a place on belong to a listing, and where to go on (this project's choice)
-unfoldable pub count_from : Limits → History → Listing → ℕ → Known
+unfoldable pub count_from : Limits → History → Listing → ℕ → QueryResult
 count_from l J x place = known.Counted (length (filter (belongs x) (looked_at (rows_along l J x) place)))
     (next_of (length (rows_along l J x)) place)
 
@@ -136,12 +136,12 @@ is_listed J (listing.Actions status) = true
 -- ---- the result of each query
 
 -- the result for something that is there, or else the refusal since it isn't
-abbrev pub known_where : Bool → Known → Refusal → Result Known Refusal
+abbrev pub known_where : Bool → QueryResult → Refusal → Result QueryResult Refusal
 known_where there k r = cond there (Ok k) (Err r)
 
 -- the result of a query: the history and the pauses between asks alone decide it, and it changes nothing (this
 -- project's choice)
-unfoldable pub tell : Limits → History → Query → Result Known Refusal
+unfoldable pub tell : Limits → History → Query → Result QueryResult Refusal
 tell l J (query.ActionStatus a) = known_where (is_among (actions J) a) (known.ActionIs (status_at J a))
     refusal.NoSuchAction
 tell l J (query.MemberStatus p) = known_where (is_among (members J) p) (known.MemberIs (member_status J p))
@@ -159,13 +159,13 @@ asks (command.MemberStatus p) = Some (query.MemberStatus p)
 asks _ = None
 
 -- the result of a query, as a command's answer; no command asks for rows
-abbrev pub told_as : Known → Told
+abbrev pub told_as : QueryResult → Told
 told_as (known.ActionIs status) = told.ActionIs status
 told_as (known.MemberIs status) = told.MemberIs status
 told_as _ = told.Idle
 
 -- the result of a query, or its refusal, as the answer to a command
-abbrev pub answer_as : Result Known Refusal → Result Told Refusal
+abbrev pub answer_as : Result QueryResult Refusal → Result Told Refusal
 answer_as (Ok k) = Ok (told_as k)
 answer_as (Err r) = Err r
 
@@ -187,7 +187,7 @@ RowsHoldEnds = (J : History) (a : ℕ) (status : ActionStatus) → (status ≡ a
 
 -- the rows that are returned from the result of one query on: its row and those from the place after it, or those from
 -- where to go on
-abbrev pub rows_after : (ℕ → List Row) → Known → List Row
+abbrev pub rows_after : (ℕ → List Row) → QueryResult → List Row
 rows_after on (known.Row place r) = r ∷ on (place + 1)
 rows_after on (known.Further place) = on place
 rows_after on _ = []
@@ -203,7 +203,7 @@ ListingsAreToldWhole = (l : Limits) (J : History) (x : Listing) (n : ℕ) → le
     → told_on n l J x 0 ≡ filter (belongs x) (rows_along l J x)
 
 -- how many rows are counted from the result of one query on, with those from where to go on
-abbrev pub counted_after : (ℕ → ℕ) → Known → ℕ
+abbrev pub counted_after : (ℕ → ℕ) → QueryResult → ℕ
 counted_after on (known.Counted count (Some place)) = count + on place
 counted_after on (known.Counted count None) = count
 counted_after _ _ = 0

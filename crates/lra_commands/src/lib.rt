@@ -18,6 +18,6 @@ pub use laws::{
     queries_miss, rows_hold_ends,
 };
 pub use limits::{Limits, Terms};
-pub use query::{Awaited, Known, Listing, Query, Row, Want};
+pub use query::{Blocker, Listing, Query, QueryResult, Row, Want};
 pub use refusal::{Refusal, Resource};
 pub use session::Session;

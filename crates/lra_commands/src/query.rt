@@ -69,7 +69,7 @@ pub struct Want {
 
 /// The blocker of an action's end: a row that the end waits for.
 #[derive(Clone, Copy, Debug, PartialEq, Eq)]
-pub enum Awaited {
+pub enum Blocker {
     /// A member that isn't done, and the ask of it that is outstanding, if one is.
     Member { member: u64, ask: Option<u64> },
     /// An action nested directly in it that hasn't ended.
@@ -78,13 +78,13 @@ pub enum Awaited {
 
 /// The result of a query of the coordinator's history.
 #[derive(Clone, Copy, Debug, PartialEq, Eq)]
-pub enum Known {
+pub enum QueryResult {
     /// The action's status.
     ActionIs(ActionStatus),
     /// The member's status.
     MemberIs(MemberStatus),
     /// The first of the rows looked at that holds the action's end, and its place.
-    Awaits { place: u64, awaited: Awaited },
+    Awaits { place: u64, awaited: Blocker },
     /// None of the rows looked at is returned, and there are more from this place on.
     Further(u64),
     /// No row from the place on holds the action's end.
@@ -98,20 +98,20 @@ pub enum Known {
     Counted { count: u64, next: Option<u64> },
 }
 
-impl Known {
+impl QueryResult {
     /// Returns the same as a command's answer. No command returns rows or how many there are: there it is `Idle`.
     pub const fn told(self) -> Told
         ensures { result ≡ told_as self }
     {
         match self {
-            Known::ActionIs(status) => Told::ActionIs(status),
-            Known::MemberIs(status) => Told::MemberIs(status),
-            Known::Awaits { .. } => Told::Idle,
-            Known::Further(_) => Told::Idle,
-            Known::AwaitsNothing => Told::Idle,
-            Known::Row { .. } => Told::Idle,
-            Known::NoMore => Told::Idle,
-            Known::Counted { .. } => Told::Idle,
+            QueryResult::ActionIs(status) => Told::ActionIs(status),
+            QueryResult::MemberIs(status) => Told::MemberIs(status),
+            QueryResult::Awaits { .. } => Told::Idle,
+            QueryResult::Further(_) => Told::Idle,
+            QueryResult::AwaitsNothing => Told::Idle,
+            QueryResult::Row { .. } => Told::Idle,
+            QueryResult::NoMore => Told::Idle,
+            QueryResult::Counted { .. } => Told::Idle,
         }
     }
 }

@@ -13,7 +13,7 @@ use Rattle.lra_model.specs.History.{History, actions, members, asks}
 use Rattle.lra_model.specs.Joins.{already_member}
 use Rattle.lra_model.specs.Settling.{IsQuiet, next_settling}
 use Rattle.lra_model.specs.Wants.{wants}
-use Rattle.lra_laws.specs.Sheets.{sheet_of}
+use Rattle.lra_laws.specs.Snapshots.{snapshot_of}
 use Rattle.lra_laws.proofs.Quiet.{no_next_is_quiet}
 use Rattle.lra_ids.specs.Addresses.{is_address}
 use Rattle.lra_tables.specs.Plans.{Tabled}
@@ -33,7 +33,7 @@ use Rattle.lra_schedule.specs.Schedules.{IsScheduleOf}
 use Rattle.lra_core.specs.inner.Kept.{IsKept}
 use Rattle.lra_core.specs.inner.Made.{ask_in, asking_at}
 
-pub kept_empty : (s : Terms) (t : Tabled) (p : Planned) → AreKeepable s.limits → t.sheet ≡ sheet_of []
+pub kept_empty : (s : Terms) (t : Tabled) (p : Planned) → AreKeepable s.limits → t.snapshot ≡ snapshot_of []
     → IsScheduleOf s.limits p [] → IsKept s t p []
 kept_empty s t p k h i = record { keepable = k; lawful = lawful_from_nothing s; tables = h; schedule = i }
 

@@ -1,7 +1,7 @@
 -- The numbers of a coordinator's actions and members are such as identifiers have.
 use Rattle.std.proofs.Common.{◌≡◌, ℕ, ◌<◌, ◌≤◌, ◌^◌, true, arith}
 use Rattle.lra_model.specs.History.{History, actions, members, is_among}
-use Rattle.lra_laws.specs.Sheets.{StandsFor}
+use Rattle.lra_laws.specs.Snapshots.{StandsFor}
 use Rattle.lra_laws.proofs.Legal.{numbered_among, actions_numbered, members_numbered}
 use Rattle.lra_ids.specs.Addresses.{is_address}
 use Rattle.lra_tables.specs.Plans.{Tabled}
@@ -32,5 +32,5 @@ member_number s J p k l h =
     (n.0, omega arith)
 
 -- the tables of a coordinator stand for its history
-pub stands : (s : Terms) (t : Tabled) (p : Planned) (J : History) → IsKept s t p J → StandsFor t.sheet J
-stands s t p J k = record { version = s.version; is_address = is_address; legal = k.lawful.legal; sheet = k.tables }
+pub stands : (s : Terms) (t : Tabled) (p : Planned) (J : History) → IsKept s t p J → StandsFor t.snapshot J
+stands s t p J k = record { version = s.version; is_address = is_address; legal = k.lawful.legal; snapshot = k.tables }

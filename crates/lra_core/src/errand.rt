@@ -2,8 +2,8 @@
 
 ghost use Rattle.std.specs.Prelude.{◌≡◌, option_map};
 
-use lra_judge::{Carried, Carries};
 use lra_model::{ActionStatus, AskKind, Direction};
+use lra_validator::{Carried, HasAsk};
 use std::marker::Model;
 
 /// A command that a clerk gives to the coordinator.
@@ -155,7 +155,7 @@ impl Errand {
     }
 }
 
-impl Carries for Errand {
+impl HasAsk for Errand {
     ghost asking = { λ e. e };
 
     fn carried(&self) -> Carried {

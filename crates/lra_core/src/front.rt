@@ -8,29 +8,29 @@ use std::marker::Model;
 /// The bytes of a journal prefix, for contracts alone: they take no memory, and adding some does nothing at run time. A
 /// clause reads them as `bytes`.
 #[derive(Drop)]
-pub struct Front {
+pub struct JournalPrefix {
     pub ghost bytes: { List ℕ },
 }
 
-impl Model for Front {
+impl Model for JournalPrefix {
     ghost also_owns = { λ _. ftrue };
 }
 
 // They own nothing.
-unsafe impl Send for Front {}
+unsafe impl Send for JournalPrefix {}
 
-impl Front {
+impl JournalPrefix {
     /// Makes a prefix of no bytes.
-    pub fn empty() -> Front
+    pub fn empty() -> JournalPrefix
         ensures { result.bytes ≡ [] }
     {
-        Front {}
+        JournalPrefix {}
     }
 
     /// Returns these bytes, with a piece behind them.
-    pub fn and(&self, piece: &[u8]) -> Front
+    pub fn and(&self, piece: &[u8]) -> JournalPrefix
         ensures { result.bytes ≡ self.now.bytes ++ piece.now }
     {
-        Front {}
+        JournalPrefix {}
     }
 }

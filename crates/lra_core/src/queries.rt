@@ -8,15 +8,15 @@ ghost use Rattle.lra_commands.specs.Counters.{terms_of};
 ghost use Rattle.lra_schedule.specs.Schedules.{IsFirstMoment};
 
 use crate::coordinator::CoordinatorOf;
-use crate::past::Past;
-use lra_commands::{Known, Query, Refusal, Told};
-use lra_judge::tell;
+use crate::history_store::HistoryStore;
+use lra_commands::{Query, QueryResult, Refusal, Told};
+use lra_validator::tell;
 
-impl<P: Past> CoordinatorOf<P> {
+impl<P: HistoryStore> CoordinatorOf<P> {
     /// Returns the result of a query of the history, the same for every caller at every moment. This changes nothing
     /// and takes no memory. `NoSuchAction` and `NoSuchMember` alone refuse it, not the limits or a journal that can't
     /// be written.
-    pub fn query(&self, query: Query) -> Result<Known, Refusal>
+    pub fn query(&self, query: Query) -> Result<QueryResult, Refusal>
         ensures { result ≡ tell self.now.setting.limits self.now.history query }
     {
         tell(&self.terms.limits, &self.tables, query)
@@ -44,7 +44,7 @@ impl<P: Past> CoordinatorOf<P> {
 }
 
 /// Returns the result of a query as the answer to a command.
-fn answer_as(known: Result<Known, Refusal>) -> Result<Told, Refusal>
+fn answer_as(known: Result<QueryResult, Refusal>) -> Result<Told, Refusal>
     ensures { result ≡ answer_as known }
 {
     match known {

@@ -4,7 +4,7 @@ use Rattle.std.proofs.Common.{refl, sym, ap, ◌∙◌}
 use Rattle.std.specs.Borrow.{Bor}
 use Rattle.std.specs.List.{flat_map}
 use Rattle.std.proofs.KnownBytes.{Keeps-refl}
-use Rattle.lra_ids.specs.declared.fault.UriFault.{UriFault}
+use Rattle.lra_addresses.specs.declared.fault.UriFault.{UriFault}
 use Rattle.lra_ids.specs.Addresses.{address_of, is_address, is_own, target_of}
 use Rattle.lra_wire.specs.Writing.{field_line, message_text}
 use Rattle.lra_courier.specs.declared.fault.SendFault.{SendFault}

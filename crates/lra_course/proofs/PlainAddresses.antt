@@ -26,9 +26,9 @@ use Rattle.url.specs.Parts.{Parts, serialize, IsPortOf, IsValid}
 use Rattle.url.proofs.InputLemmas.{Passes, is_empty_nonempty, map_fixed, list_all_from_All}
 use Rattle.url.proofs.SetLemmas.{kept_from_passes}
 use Rattle.url.proofs.OnLiterals.{url_on_literals}
-use Rattle.lra_ids.specs.Addresses.{is_address, is_http}
-use Rattle.lra_ids.proofs.ParsedValid.{http_kind}
-use Rattle.lra_ids.proofs.AddressFacts.{url_is_address}
+use Rattle.lra_addresses.specs.Addresses.{is_address, is_http}
+use Rattle.lra_addresses.proofs.ParsedValid.{http_kind}
+use Rattle.lra_addresses.proofs.AddressFacts.{url_is_address}
 use Rattle.lra_entries.specs.Numbers as words
 use Rattle.lra_entries.proofs.Numbers.{own, number_is}
 use Rattle.lra_course.specs.inner.Plain.{is_letter, is_name_byte, is_path_byte, is_host, is_path, port_text, IsPort}

@@ -4,7 +4,7 @@ use Rattle.lra_model.specs.declared.version.Version.{Version}
 use Rattle.lra_model.specs.declared.entry.Entry.{Entry}
 use Rattle.lra_model.specs.History.{History}
 use Rattle.lra_model.specs.Rules.{is_legal}
-use Rattle.lra_ids.specs.Addresses.{is_address}
+use Rattle.lra_addresses.specs.Addresses.{is_address}
 use Rattle.lra_laws.specs.Rows.{State, state_of}
 use Rattle.lra_course.specs.Start.{after_entry}
 use Rattle.lra_course.specs.Start.{no_entries}

@@ -11,7 +11,7 @@ use Rattle.lra_model.specs.Actions.{action_status}
 use Rattle.lra_model.specs.Rules.{Fault, first_fault}
 use Rattle.lra_model.specs.Tallies.{count_actions, least_failed, failed_actions}
 use Rattle.lra_laws.specs.Rows.{is_unended}
-use Rattle.lra_ids.specs.Addresses.{is_address}
+use Rattle.lra_addresses.specs.Addresses.{is_address}
 use Rattle.lra_course.specs.declared.verdict.FailedEnd.{FailedEnd}
 use Rattle.lra_course.specs.declared.verdict.Summary.{Summary}
 use Rattle.lra_course.specs.declared.verdict.Verdict.{Verdict}

@@ -5,7 +5,7 @@ ghost use Rattle.lra_model.specs.declared.version.Version.{Version};
 ghost use Rattle.lra_model.specs.declared.entry.Deed.TheVariants as deeds;
 ghost use Rattle.lra_model.specs.Rules as rules;
 ghost use Rattle.lra_entries.specs.Borrowed.{entry_seen, deed_seen};
-ghost use Rattle.lra_ids.specs.Addresses.{is_address};
+ghost use Rattle.lra_addresses.specs.Addresses.{is_address};
 ghost use Rattle.lra_laws.specs.Rows.{State};
 ghost use Rattle.lra_laws.specs.inner.RowFacts.{facts_by};
 

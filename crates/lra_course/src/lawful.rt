@@ -8,15 +8,15 @@ ghost use Rattle.lra_model.specs.Words as words;
 ghost use Rattle.lra_model.specs.Tests as tests;
 ghost use Rattle.lra_model.specs.Rules as rules;
 ghost use Rattle.lra_entries.specs.Borrowed.{deed_seen};
-ghost use Rattle.lra_ids.specs.Addresses.{is_address};
+ghost use Rattle.lra_addresses.specs.Addresses.{is_address};
 ghost use Rattle.lra_laws.specs.Rows.{State};
 ghost use Rattle.lra_laws.specs.inner.RowFacts.{action_by, member_by, facts_by, is_standing};
 ghost use Rattle.lra_laws.specs.Rows.{row_at};
 
 use crate::plain::is_plain_address;
 use crate::state::Rows;
+use lra_addresses::is_address_text;
 use lra_entries::{DeedRef, UrisRef};
-use lra_ids::is_address_text;
 use lra_model::{ActionStatus, AskKind, Cause, Memory, Outcome, Version, suits};
 use lra_states::{ActionState, Limit, MemberState, Presence, is_settled, right_end, was_accepted};
 use std::alloc::Global;

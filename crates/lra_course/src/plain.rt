@@ -2,7 +2,7 @@
 
 ghost use Rattle.std.specs.Prelude.{◌≡◌, ◌≢◌, ◌++◌, ℕ, List, Some, true, codes, MatchOption};
 ghost use Rattle.std.specs.Fmt.{decimal};
-ghost use Rattle.lra_ids.specs.Addresses.{is_address};
+ghost use Rattle.lra_addresses.specs.Addresses.{is_address};
 ghost use Rattle.lra_course.specs.inner.Plain.{
   is_letter,
   is_name_byte,

@@ -8,7 +8,7 @@ use Rattle.std.proofs.lemmas.List.{take_more, take-append-drop, get_or_read, get
 use Rattle.lra_course.specs.declared.verdict.Verdict.{Verdict}
 use Rattle.lra_course.specs.declared.verdict.Verdict.TheVariants.{Sound, Unsound}
 use Rattle.std.specs.Io.KnownBytes.{Appends}
-use Rattle.lra_audits.specs.Report.{report_of, status_of}
+use Rattle.lra_verdict_lines.specs.VerdictLines.{report_of, status_of}
 use Rattle.lra_words.specs.Asked.{texts}
 use Rattle.lra_audits.specs.declared.fault.RunFault.{RunFault}
 use Rattle.lra_folders.specs.declared.deed.Deed.{Deed}

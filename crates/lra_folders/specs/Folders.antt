@@ -9,7 +9,8 @@ use Rattle.lra_course.specs.declared.verdict.Verdict.TheVariants.{Sound, Unsound
 use Rattle.lra_auditor.specs.Verdicts.{IsVerdict}
 use Rattle.lra_audits.specs.declared.fault.RunFault.TheVariants.{Read}
 use Rattle.lra_audits.specs.Faults.{error_line}
-use Rattle.lra_audits.specs.Report.{joined, line_feed, report_of, ReportsAudit}
+use Rattle.lra_audits.specs.Report.{ReportsAudit}
+use Rattle.lra_verdict_lines.specs.VerdictLines.{joined, line_feed, report_of}
 use Rattle.lra_reports.specs.Show.{ReportsListing}
 use Rattle.lra_folders.specs.declared.deed.Deed.{Deed}
 use Rattle.lra_folders.specs.declared.deed.Deed.TheVariants.{Audit, Show}

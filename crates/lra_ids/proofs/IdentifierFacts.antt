@@ -8,7 +8,7 @@ use Rattle.uuid.specs.Text.{parsed, lower}
 use Rattle.uuid.proofs.OrderLemmas.{from_be_bytes-to_be_bytes_16}
 use Rattle.uuid.proofs.TextLemmas.{by_index_length, all_fit}
 use Rattle.uuid.proofs.RoundTrips.{parses_hyphenated, parse_gives}
-use Rattle.lra_ids.proofs.Remainders.{remainders_fit}
+use Rattle.lra_addresses.proofs.Remainders.{remainders_fit}
 use Rattle.lra_ids.specs.Identifiers.{id_number, id_bytes, id_text}
 
 -- a UUID is sixteen bytes

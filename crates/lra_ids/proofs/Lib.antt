@@ -1,4 +1,4 @@
-pub mod Remainders
-pub mod AddressFacts
 pub mod IdentifierFacts
-pub mod ParsedValid
+pub mod Bearings
+pub mod Beginnings
+mod Worked

@@ -5,7 +5,7 @@ use Rattle.std.specs.List.{list_all, list_any}
 use Rattle.std.specs.Char.{is_ascii_graphic}
 use Rattle.url.specs.Ascii.{slash, question_mark, number_sign}
 use Rattle.url.specs.Parts.{Parts, serialize}
-use Rattle.lra_ids.specs.Addresses.{is_address, is_base, url_of}
+use Rattle.lra_addresses.specs.Addresses.{is_address, is_base, url_of}
 
 -- the scheme is `http` or `https`, no user is named, and each byte of the text is one from 0x21 to 0x7E
 abbrev pub is_web : Parts → Bool

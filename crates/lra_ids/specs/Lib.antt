@@ -1,4 +1,7 @@
+pub use Rattle.lra_addresses.specs.Addresses
 pub mod Identifiers
-pub mod Addresses
 pub mod Bases
-pub mod inner
+pub mod Bearing
+pub mod InstanceLaws
+pub mod Sites
+pub mod SiteLaws

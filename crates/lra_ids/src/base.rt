@@ -1,12 +1,10 @@
 //! The base of the identifiers that are served at an address.
 
 ghost use Rattle.std.specs.Prelude.{◌≡◌, ◌&&◌, true, false, bytes_eq, None, Ok, IfOk, IfSome};
-ghost use Rattle.lra_ids.specs.Addresses.{is_address, is_base, address_of};
+ghost use Rattle.lra_addresses.specs.Addresses.{is_address, is_base, address_of};
 ghost use Rattle.lra_ids.specs.Bases.{base_text, is_own_base};
 
-use crate::addresses::Address;
-use crate::fault::UriFault;
-use crate::reading::address;
+use lra_addresses::{Address, UriFault, address};
 use lra_model::Memory;
 use std::alloc::Global;
 

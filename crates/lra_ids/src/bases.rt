@@ -23,14 +23,12 @@ ghost use Rattle.std.specs.Prelude.{
 };
 ghost use Rattle.std.specs.List.{list_all, list_any};
 ghost use Rattle.url.specs.Parts.{serialize};
-ghost use Rattle.lra_ids.specs.Addresses.{url_of, is_base};
+ghost use Rattle.lra_addresses.specs.Addresses.{url_of, is_base};
 ghost use Rattle.lra_ids.specs.Bases.{is_web, is_stem, base_for};
 ghost use Rattle.lra_ids.specs.Identifiers.{IsSpelling, action_uri, recovery_uri};
 
-use crate::addresses::{Address, LONGEST_BASE, ends_in_slash, has_tail};
-use crate::fault::UriFault;
 use crate::identifier::{ACTIONS, RECOVERIES, read, spell};
-use crate::reading::is_graphic;
+use lra_addresses::{Address, LONGEST_BASE, UriFault, ends_in_slash, has_tail, is_graphic};
 use lra_model::{Instance, Memory};
 use std::alloc::Global;
 use std::marker::Model;

@@ -22,9 +22,9 @@ ghost use Rattle.uuid.specs.Uuid.{version_num};
 ghost use Rattle.uuid.specs.Parts.{variant_of};
 ghost use Rattle.uuid.specs.declared.Variant.TheVariants.{RFC4122};
 ghost use Rattle.lra_ids.specs.Identifiers.{IsSpelling, id_bytes, id_text, action_uri, recovery_uri};
-ghost use Rattle.lra_ids.specs.Addresses.{is_base};
+ghost use Rattle.lra_addresses.specs.Addresses.{is_base};
 
-use crate::addresses::Address;
+use lra_addresses::Address;
 use lra_model::{Instance, Memory};
 use std::alloc::Global;
 use uuid::Uuid;

@@ -2,8 +2,8 @@
 use Rattle.std.specs.Prelude.{◌≡◌, ◌≢◌, ◌⊎◌, ◌<◌, ◌^◌, ℕ, List, codes, Some, Result, Ok, Err}
 use Rattle.serde_json.specs.Data.{Members}
 use Rattle.lra_ids.specs.Identifiers.{id_text, action_uri}
-use Rattle.lra_instances.specs.Bearing.{instance_at_end}
-use Rattle.lra_instances.specs.Laws.{IsBorne}
+use Rattle.lra_ids.specs.Bearing.{instance_at_end}
+use Rattle.lra_ids.specs.InstanceLaws.{IsBorne}
 use Rattle.lra_wire.specs.Request.{Request}
 use Rattle.lra_commands.specs.declared.refusal.Refusal.TheVariants as refusal
 use Rattle.lra_front.specs.declared.operation.Operation.{Operation}

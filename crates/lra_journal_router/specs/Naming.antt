@@ -1,7 +1,7 @@
 -- The instance that a request names.
 use Rattle.std.specs.Prelude.{ℕ, List, codes, Option, None, option_and_then, Result, Ok, Err}
 use Rattle.serde_json.specs.Data.{Members}
-use Rattle.lra_instances.specs.Bearing.{instance_in, instance_at_end}
+use Rattle.lra_ids.specs.Bearing.{instance_in, instance_at_end}
 use Rattle.lra_wire.specs.Request.{Request}
 use Rattle.lra_front.specs.declared.operation.Operation.{Operation}
 use Rattle.lra_front.specs.declared.operation.Operation.TheVariants as operation

@@ -14,7 +14,7 @@ use Rattle.lra_model.specs.History.{History, steps, asks, asked_by, members}
 use Rattle.lra_model.specs.Members.{Asked, asked_at, ask_of}
 use Rattle.lra_model.specs.Rules.{is_legal}
 use Rattle.lra_laws.specs.Rows.{MemberRow, member_row, state_of, row_at, way_asked}
-use Rattle.lra_laws.specs.Sheets.{asks_made, asks_after}
+use Rattle.lra_laws.specs.Snapshots.{asks_made, asks_after}
 use Rattle.lra_laws.proofs.Push.{step, steps_push, read_push, asks_push}
 use Rattle.lra_laws.proofs.Legal.{snoc_induction, asks_numbered, members_numbered}
 use Rattle.lra_laws.proofs.RowLists.{row_there}

@@ -28,7 +28,7 @@ use Rattle.lra_model.specs.Rules.{deed_rules, is_legal}
 use Rattle.lra_laws.specs.Rows.{Standing, MemberRow, member_row, standing, void_at, void_asks, way_asked}
 use Rattle.lra_laws.specs.Changes.{member_awaited, members_awaited, members_changed, actions_changed}
 use Rattle.lra_laws.proofs.Push.{step, action_status_push, actions_push, members_push}
-use Rattle.lra_laws.proofs.Contacts.{repeat_of, repeats_push}
+use Rattle.lra_laws.proofs.Endpoints.{repeat_of, repeats_push}
 use Rattle.lra_laws.proofs.GoodLists.{among_here, among_there, among_filter}
 use Rattle.lra_laws.proofs.GoodSpared.{close_active, cancel_case}
 use Rattle.lra_laws.proofs.Legal.{Allowed, AllKept, at_action_from, entry_kept, close_kept, cancel_kept, action_fact}

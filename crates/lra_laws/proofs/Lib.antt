@@ -7,7 +7,7 @@ pub mod Changes
 pub mod ChangesBlock
 pub mod Clerks
 pub mod Climbs
-pub mod Contacts
+pub mod Endpoints
 pub mod GoodKept
 pub mod GoodLaw
 pub mod GoodLeast
@@ -33,7 +33,7 @@ pub mod Settled
 pub mod SettlesNext
 pub mod SettlesPush
 pub mod SettlesStay
-pub mod SheetPush
+pub mod SnapshotPush
 pub mod StartRows
 pub mod StatePush
 pub mod StatusCases

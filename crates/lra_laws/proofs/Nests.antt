@@ -15,8 +15,9 @@ use Rattle.lra_model.specs.Actions.{parent, top, child_given, children, member_g
 use Rattle.lra_model.specs.Members.{action_given, action_of, members_under}
 use Rattle.lra_model.specs.Rules.{is_legal}
 use Rattle.lra_laws.specs.Rows.{ActionRow, action_row, state_of, change_row}
-use Rattle.lra_laws.specs.Sheets.{Nest, nest_of, with_child_number, with_member_number, with_number_under, top_at}
-use Rattle.lra_laws.specs.Sheets.{new_depth, new_nest, nests_after}
+use Rattle.lra_laws.specs.Snapshots.{Nesting, nesting_of, with_child_number, with_member_number, with_number_under}
+use Rattle.lra_laws.specs.Snapshots.{top_at}
+use Rattle.lra_laws.specs.Snapshots.{new_depth, new_nesting, nests_after}
 use Rattle.lra_laws.proofs.Push.{actions_push, children_push, members_push, members_of_push}
 use Rattle.lra_laws.proofs.GoodLists.{filter_same}
 use Rattle.lra_laws.proofs.Legal.{Allowed, legal_more, IsNumbered, numbered_fresh, actions_numbered, members_numbered}
@@ -86,7 +87,7 @@ under_after v t J by m d a o l x h =
 -- an action that gets neither
 nest_still : (v : Version) (t : List ℕ → Bool) (J : History) (by m : ℕ) (d : Deed) (a : ℕ) → is_legal v t J ≡ true
     → Told J by d → is_among (actions J) a ≡ true → child_given a d ≡ None → member_given a d ≡ None → under_given J a d
-    ≡ None → nest_of (more J by m d) a ≡ nest_of J a
+    ≡ None → nesting_of (more J by m d) a ≡ nesting_of J a
 nest_still v t J by m d a l x h no_child no_member no_under = λ i. record {
   depth = depth_stays v t J (entry by m d) l a h i;
   children = (children_after J by m d a None no_child ∙ append-nil (children J a)) i;
@@ -97,30 +98,31 @@ nest_still v t J by m d a l x h no_child no_member no_under = λ i. record {
 nests_still : (v : Version) (t : List ℕ → Bool) (J : History) (by m : ℕ) (d : Deed) → is_legal v t J ≡ true
     → Told J by d → started_by d ≡ None → ((a : ℕ) → child_given a d ≡ None) → ((a : ℕ) → member_given a d ≡ None)
     → ((a : ℕ) → under_given J a d ≡ None)
-    → map (nest_of (more J by m d)) (actions (more J by m d)) ≡ map (nest_of J) (actions J)
+    → map (nesting_of (more J by m d)) (actions (more J by m d)) ≡ map (nesting_of J) (actions J)
 nests_still v t J by m d l x no_start no_child no_member no_under =
-    ap (map (nest_of (more J by m d))) (actions_stay J by m d no_start)
-    ∙ map_within (nest_of (more J by m d)) (nest_of J) (actions J) (λ a h. nest_still v t J by m d a l x h (no_child a)
+    ap (map (nesting_of (more J by m d))) (actions_stay J by m d no_start)
+    ∙ map_within (nesting_of (more J by m d)) (nesting_of J) (actions J)
+    (λ a h. nest_still v t J by m d a l x h (no_child a)
     (no_member a) (no_under a))
 
 -- one that joins: its number goes to its action, and to the outermost one above that
 nests_joined : (v : Version) (t : List ℕ → Bool) (J : History) (by m p c : ℕ) (uris : Addresses) → is_legal v t J ≡ true
     → JoinTold J p c
-    → map (nest_of (more J by m (Join p c uris))) (actions (more J by m (Join p c uris)))
+    → map (nesting_of (more J by m (Join p c uris))) (actions (more J by m (Join p c uris)))
     ≡ change_row (with_number_under p) (top_at (state_of J) c) (change_row (with_member_number p) c
-    (map (nest_of J) (actions J)))
+    (map (nesting_of J) (actions J)))
 nests_joined v t J by m p c uris l x =
-    ap (map (nest_of K)) (actions_stay J by m (Join p c uris) refl)
-    ∙ rows_changed (with_number_under p) joined (nest_of K) (actions J) (top J c) numbered
+    ap (map (nesting_of K)) (actions_stay J by m (Join p c uris) refl)
+    ∙ rows_changed (with_number_under p) joined (nesting_of K) (actions J) (top J c) numbered
     (top_is_there v t J l c x.there) (λ a h e. stood a None (ap (λ (b : Bool). when b p) e)
     ∙ ap (λ (ns : List ℕ). record (joined a) { under = ns }) (append-nil (members_under J a)))
     (stood (top J c) (Some p) (ap (λ (b : Bool). when b p) (eqb_self (top J c))))
-    ∙ ap (change_row (with_number_under p) (top J c)) (rows_changed (with_member_number p) (nest_of J) joined
+    ∙ ap (change_row (with_number_under p) (top J c)) (rows_changed (with_member_number p) (nesting_of J) joined
     (actions J) c numbered x.there (λ a h e. gone_in a h None (ap (λ (b : Bool). when b p) e)
-    ∙ ap (λ (ns : List ℕ). record (nest_of J a) { members = ns }) (append-nil (members_of J a)))
+    ∙ ap (λ (ns : List ℕ). record (nesting_of J a) { members = ns }) (append-nil (members_of J a)))
     (gone_in c x.there (Some p) (ap (λ (b : Bool). when b p) (eqb_self c))))
     ∙ sym (ap (λ (o : Option ActionRow). change_row (with_number_under p) (option_map_or (λ (r : ActionRow). r.top) o 0)
-    (change_row (with_member_number p) c (map (nest_of J) (actions J))))
+    (change_row (with_member_number p) c (map (nesting_of J) (actions J))))
     (row_there (action_row J) (actions J) c numbered x.there))
   where
     K : History
@@ -130,11 +132,11 @@ nests_joined v t J by m p c uris l x =
     numbered = actions_numbered v t J l
 
     -- the number has gone to the action alone
-    joined : ℕ → Nest
-    joined a = record (nest_of K a) { under = members_under J a }
+    joined : ℕ → Nesting
+    joined a = record (nesting_of K a) { under = members_under J a }
 
     gone_in : (a : ℕ) → is_among (actions J) a ≡ true → (o : Option ℕ) → when (c == a) p ≡ o → joined a
-        ≡ record (nest_of J a) { members = members_of J a ++ option_to_list o }
+        ≡ record (nesting_of J a) { members = members_of J a ++ option_to_list o }
     gone_in a h o e = λ i. record {
       depth = depth_stays v t J (entry by m (Join p c uris)) l a h i;
       children = (children_after J by m (Join p c uris) a None refl ∙ append-nil (children J a)) i;
@@ -142,7 +144,7 @@ nests_joined v t J by m p c uris l x =
       under = members_under J a;
     }
 
-    stood : (a : ℕ) (o : Option ℕ) → when (top J c == a) p ≡ o → nest_of K a
+    stood : (a : ℕ) (o : Option ℕ) → when (top J c == a) p ≡ o → nesting_of K a
         ≡ record (joined a) { under = members_under J a ++ option_to_list o }
     stood a o e = λ i. record (joined a) { under = under_after v t J by m (Join p c uris) a o l x e i }
 
@@ -174,11 +176,11 @@ nothing_in v t J c l fresh = (
 
 nests_started : (v : Version) (t : List ℕ → Bool) (J : History) (by m c : ℕ) (above : Option ℕ) (limit : ℕ)
     → is_legal v t J ≡ true → Allowed v t J (entry by m (Start c above limit)) → StartTold J c above
-    → map (nest_of (more J by m (Start c above limit))) (actions (more J by m (Start c above limit)))
-    ≡ nests_after (state_of J) (Start c above limit) (map (nest_of J) (actions J))
+    → map (nesting_of (more J by m (Start c above limit))) (actions (more J by m (Start c above limit)))
+    ≡ nests_after (state_of J) (Start c above limit) (map (nesting_of J) (actions J))
 nests_started v t J by m c above limit l k told =
-    ap (map (nest_of K)) (actions_push J (entry by m (Start c above limit)))
-    ∙ rows_more (nest_of K) (actions J) c
+    ap (map (nesting_of K)) (actions_push J (entry by m (Start c above limit)))
+    ∙ rows_more (nesting_of K) (actions J) c
     ∙ (λ i. rows above told.parent_there (λ a. refl) i ++ new_row i ∷ [])
   where
     K : History
@@ -188,8 +190,9 @@ nests_started v t J by m c above limit l k told =
     fresh = numbered_fresh (actions J) (actions_numbered v t J l) c told.number
 
     -- an action that was there
-    old : (a : ℕ) (o : Option ℕ) → is_among (actions J) a ≡ true → child_given a (Start c above limit) ≡ o → nest_of K a
-        ≡ record (nest_of J a) { children = children J a ++ option_to_list o }
+    old : (a : ℕ) (o : Option ℕ) → is_among (actions J) a ≡ true → child_given a (Start c above limit) ≡ o
+        → nesting_of K a
+        ≡ record (nesting_of J a) { children = children J a ++ option_to_list o }
     old a o h e = λ i. record {
       depth = depth_stays v t J (entry by m (Start c above limit)) l a h i;
       children = children_after J by m (Start c above limit) a o e i;
@@ -197,17 +200,17 @@ nests_started v t J by m c above limit l k told =
       under = (under_after v t J by m (Start c above limit) a None l told refl ∙ append-nil (members_under J a)) i;
     }
 
-    same : (a : ℕ) → is_among (actions J) a ≡ true → child_given a (Start c above limit) ≡ None → nest_of K a
-        ≡ nest_of J a
+    same : (a : ℕ) → is_among (actions J) a ≡ true → child_given a (Start c above limit) ≡ None → nesting_of K a
+        ≡ nesting_of J a
     same a h e = nest_still v t J by m (Start c above limit) a l told h e refl refl
 
     rows : (o : Option ℕ) → option_map_or (is_among (actions J)) o true ≡ true
         → ((a : ℕ) → child_given a (Start c above limit) ≡ child_given a (Start c o limit))
-        → map (nest_of K) (actions J) ≡ option_map_or (λ b. change_row (with_child_number c) b
-        (map (nest_of J) (actions J))) o (map (nest_of J) (actions J))
-    rows None there given = map_within (nest_of K) (nest_of J) (actions J) (λ a h. same a h (given a))
+        → map (nesting_of K) (actions J) ≡ option_map_or (λ b. change_row (with_child_number c) b
+        (map (nesting_of J) (actions J))) o (map (nesting_of J) (actions J))
+    rows None there given = map_within (nesting_of K) (nesting_of J) (actions J) (λ a h. same a h (given a))
     rows (Some b) there given =
-        rows_changed (with_child_number c) (nest_of J) (nest_of K) (actions J) b (actions_numbered v t J l) there
+        rows_changed (with_child_number c) (nesting_of J) (nesting_of K) (actions J) b (actions_numbered v t J l) there
         (λ a h e. same a h (given a ∙ ap (λ (x : Bool). when x c) e))
         (old b (Some c) there (given b ∙ ap (λ (x : Bool). when x c) (eqb_self b)))
 
@@ -216,12 +219,12 @@ nests_started v t J by m c above limit l k told =
         (eqb_self c)
 
     deep : (o : Option ℕ) → option_map_or (is_among (actions J)) o true ≡ true
-        → option_map_or (λ b. suc (depth K b)) o 1 ≡ new_depth (map (nest_of J) (actions J)) o
+        → option_map_or (λ b. suc (depth K b)) o 1 ≡ new_depth (map (nesting_of J) (actions J)) o
     deep None h = refl
     deep (Some b) h =
         ap (λ (x : ℕ). suc x) (depth_stays v t J (entry by m (Start c above limit)) l b h)
-        ∙ sym (ap (λ (o : Option Nest). option_map_or (λ (n : Nest). suc n.depth) o 1)
-        (row_there (nest_of J) (actions J) b (actions_numbered v t J l) h))
+        ∙ sym (ap (λ (o : Option Nesting). option_map_or (λ (n : Nesting). suc n.depth) o 1)
+        (row_there (nesting_of J) (actions J) b (actions_numbered v t J l) h))
 
     outside : (o : Option ℕ) → option_map_or (is_among (actions J)) o true ≡ true → child_given c (Start c o limit)
         ≡ None
@@ -231,7 +234,7 @@ nests_started v t J by m c above limit l k told =
     empty : (children J c ≡ []) × (members_of J c ≡ []) × (members_under J c ≡ [])
     empty = nothing_in v t J c l fresh
 
-    new_row : nest_of K c ≡ new_nest (new_depth (map (nest_of J) (actions J)) above)
+    new_row : nesting_of K c ≡ new_nesting (new_depth (map (nesting_of J) (actions J)) above)
     new_row = λ i. record {
       depth = (depth_by_parent v t K (legal_more v t J (entry by m (Start c above limit)) l k) c
           ∙ ap (λ (o : Option ℕ). option_map_or (λ b. suc (depth K b)) o 1) up ∙ deep above told.parent_there) i;
@@ -244,7 +247,8 @@ nests_started v t J by m c above limit l k told =
 
 pub nests_push : (v : Version) (t : List ℕ → Bool) (J : History) (by m : ℕ) (d : Deed) → is_legal v t J ≡ true
     → Allowed v t J (entry by m d) → Told J by d
-    → map (nest_of (more J by m d)) (actions (more J by m d)) ≡ nests_after (state_of J) d (map (nest_of J) (actions J))
+    → map (nesting_of (more J by m d)) (actions (more J by m d))
+    ≡ nests_after (state_of J) d (map (nesting_of J) (actions J))
 nests_push v t J by m (Start c above limit) l k x = nests_started v t J by m c above limit l k x
 nests_push v t J by m (Join p a uris) l k x = nests_joined v t J by m p a uris l x
 nests_push v t J by m d l k x = nests_still v t J by m d l x refl (λ a. refl) (λ a. refl) (λ a. refl)

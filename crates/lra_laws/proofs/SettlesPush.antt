@@ -23,7 +23,7 @@ use Rattle.lra_model.specs.Rules.{is_legal, allows}
 use Rattle.lra_laws.specs.Rows.{State, MemberRow, ActionRow, state_of, action_row, member_row, row_at, change_member}
 use Rattle.lra_laws.specs.Rows.{change_status, with_ask, with_reply, with_report, with_skip, new_member, new_action}
 use Rattle.lra_laws.specs.Rows.{new_top, after_deed}
-use Rattle.lra_laws.specs.Sheets.{Sheet, asks_made, state_after}
+use Rattle.lra_laws.specs.Snapshots.{StateSnapshot, asks_made, state_after}
 use Rattle.lra_laws.specs.inner.Concerned.{members_concerned, actions_concerned, around}
 use Rattle.lra_laws.proofs.GoodLists.{among_filter}
 use Rattle.lra_laws.proofs.Push.{step, children_push, members_of_push, ask_of_push}
@@ -35,7 +35,7 @@ use Rattle.lra_laws.proofs.ActionWords.{members_by}
 use Rattle.lra_laws.proofs.Told.{entry, more, StartTold, JoinTold, Told, told}
 use Rattle.lra_laws.proofs.AskWords.{asks_listed}
 use Rattle.lra_laws.proofs.AskList.{ask_at}
-use Rattle.lra_laws.proofs.SheetPush.{sheet_push}
+use Rattle.lra_laws.proofs.SnapshotPush.{snapshot_push}
 use Rattle.lra_laws.proofs.SettlesStay.{Stays, Stays-trans, rows_stay, member_stays, limit_stays, join_stays}
 use Rattle.lra_laws.proofs.SettlesStay.{status_stays, start_stays}
 
@@ -213,7 +213,7 @@ pub settles_push : (v : Version) (t : List ℕ → Bool) (J : History) (e : Entr
     ≡ true → Stays (state_of J) (state_of (J ++ e ∷ [])) (members_concerned J e.deed) (actions_concerned J e.deed)
 settles_push v t J e l k =
     subst (λ (s : State). Stays (state_of J) s (members_concerned J e.deed) (actions_concerned J e.deed))
-    (ap (λ (s : Sheet). s.state) (sym (sheet_push v t J e l k)))
+    (ap (λ (s : StateSnapshot). s.state) (sym (snapshot_push v t J e l k)))
     (after_stays v t J l e.by e.moment e.deed (told v t J e.by e.moment e.deed (allowed v t J e k)))
 
 -- ---- what a deed concerns, before and after it

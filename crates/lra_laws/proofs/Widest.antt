@@ -13,7 +13,7 @@ use Rattle.lra_model.specs.History.{History, Step, steps}
 use Rattle.lra_model.specs.Facts.{Facts, facts_of}
 use Rattle.lra_model.specs.Tests.{addresses_fit}
 use Rattle.lra_model.specs.Rules.{broken, rules_on, first_broken, allows, in_range, is_legal}
-use Rattle.lra_laws.specs.Sheets.{Sheet, StandsFor, Follows}
+use Rattle.lra_laws.specs.Snapshots.{StateSnapshot, StandsFor, Follows}
 use Rattle.lra_laws.specs.inner.RowFacts.{facts_by}
 use Rattle.lra_laws.proofs.Agree.{agree}
 use Rattle.lra_laws.proofs.Legal.{Allowed, allowed, all_kept, none_broken}
@@ -82,14 +82,14 @@ legal_widest v t J h = list_all-weaker (λ (s : Step). allows v t s.past s.entry
     (λ (s : Step). allows Two any_text s.past s.entry) (λ s. allows_widest v t s.past s.entry) (steps J) h
 
 -- two histories that one snapshot stands for have the same facts
-pub same_facts : (s : Sheet) (J K : History) → StandsFor s J → StandsFor s K → facts_of K ≡ facts_of J
+pub same_facts : (s : StateSnapshot) (J K : History) → StandsFor s J → StandsFor s K → facts_of K ≡ facts_of J
 same_facts s J K h k =
     sym (agree k.version k.is_address K k.legal)
-    ∙ ap (λ (x : Sheet). facts_by x.state) (sym k.sheet ∙ h.sheet)
+    ∙ ap (λ (x : StateSnapshot). facts_by x.state) (sym k.snapshot ∙ h.snapshot)
     ∙ agree h.version h.is_address J h.legal
 
 -- so what may follow one of them may follow the other
-pub follows_each : (s : Sheet) (e : Entry) (J : History) → Follows s e → StandsFor s J
+pub follows_each : (s : StateSnapshot) (e : Entry) (J : History) → Follows s e → StandsFor s J
     → (is_legal Two any_text J ≡ true) × Allowed Two any_text J e
 unfolding broken
 follows_each s e J f h = (

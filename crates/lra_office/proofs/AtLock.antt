@@ -12,7 +12,7 @@ use Rattle.lra_ticket.specs.Views.{view, taking, given}
 use Rattle.lra_ticket.specs.Locks.{HasTaken}
 use Rattle.lra_ticket.proofs.Histories.{block_after-append}
 use Rattle.lra_commands.specs.declared.query.Query.{Query}
-use Rattle.lra_commands.specs.declared.query.Known.{Known}
+use Rattle.lra_commands.specs.declared.query.QueryResult.{QueryResult}
 use Rattle.lra_commands.specs.declared.refusal.Refusal.{Refusal}
 use Rattle.lra_commands.specs.Calls.{Command, Call}
 use Rattle.lra_commands.specs.Answers.{growth}
@@ -112,7 +112,8 @@ unchanged v w u J h e = given_after v w u J J [] h e (sym (append-nil J)) ∙ no
 
 -- it was answered
 pub answered : {O : Type 0} (set : O → Setting) (v w u : View O) (o : O) (J : History) (q : Query)
-    (r : Result Known Refusal) → o ≡ v.origin → IsMet (set o) v J → HasTaken v J w → r ≡ tell (set o).limits J q → u
+    (r : Result QueryResult Refusal) → o ≡ v.origin → IsMet (set o) v J → HasTaken v J w → r ≡ tell (set o).limits J q
+    → u
     ≡ given w J
     → IsAnswered (set v.origin) v q r u
 answered set v w u o J q r same met h s e =

@@ -5,7 +5,7 @@ use denote.Param.SendFields.{declared_send}
 use Rattle.std.specs.declared.io.Write.{Ghosts}
 use Rattle.std.proofs.Crossing.{Box-send}
 use Rattle.lra_core.proofs.coordinator.CoordinatorOf.TheSendSync as coordinator
-use Rattle.lra_core.proofs.past.Counted.TheSendSync as counted
+use Rattle.lra_core.proofs.history_store.LengthOnly.TheSendSync as counted
 use Rattle.lra_scribe.proofs.scribe.Scribe.TheSendSync as scribe
 use Rattle.lra_office.specs.contracts.desk.Desk as desk
 

@@ -11,7 +11,7 @@ use Rattle.lra_ticket.specs.Locks.{last_ticket, tried, HasMissed}
 use Rattle.lra_model.specs.declared.asks.Outcome.{Outcome}
 use Rattle.lra_commands.specs.declared.command.Told.{Told}
 use Rattle.lra_commands.specs.declared.query.Query.{Query}
-use Rattle.lra_commands.specs.declared.query.Known.{Known}
+use Rattle.lra_commands.specs.declared.query.QueryResult.{QueryResult}
 use Rattle.lra_commands.specs.declared.refusal.Refusal.{Refusal}
 use Rattle.lra_commands.specs.Errands.{Asking}
 use Rattle.lra_commands.specs.Calls.{Call}
@@ -53,7 +53,7 @@ pub record IsGrown {O : Type 0} (g : Setting) (v : View O) (c : Call) (t : Told)
   pub after : w ≡ grown_view v history (growth (terms_of g) history c)
 
 -- a query was answered at a history that it met, and nothing was changed
-pub record IsAnswered {O : Type 0} (g : Setting) (v : View O) (q : Query) (answer : Result Known Refusal)
+pub record IsAnswered {O : Type 0} (g : Setting) (v : View O) (q : Query) (answer : Result QueryResult Refusal)
     (w : View O) : Type 0 where
   pub history : History
   pub met : IsMet g v history
@@ -61,7 +61,7 @@ pub record IsAnswered {O : Type 0} (g : Setting) (v : View O) (q : Query) (answe
   pub after : w ≡ met_view v history
 
 -- a query was answered, or no ticket was left
-abbrev pub IsQueried : {O : Type 0} → Setting → View O → Query → Result Known OfficeRefusal → View O → Type 0
+abbrev pub IsQueried : {O : Type 0} → Setting → View O → Query → Result QueryResult OfficeRefusal → View O → Type 0
 IsQueried g v q (Ok k) w = IsAnswered g v q (Ok k) w
 IsQueried g v q (Err (Refused r)) w = IsAnswered g v q (Err r) w
 IsQueried g v q (Err Worn) w = w ≡ moved v (Looked last_ticket)

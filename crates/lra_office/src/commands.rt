@@ -13,14 +13,14 @@ ghost use Rattle.lra_office.specs.inner.Given.{IsNumberOf};
 
 use crate::clerk::Clerk;
 use crate::fault::OfficeRefusal;
+use crate::locked_service::LockedService;
 use crate::office::OfficeOf;
-use crate::serving::Serving;
 use lra_commands::Told;
 use lra_core::{Command, Committed, Errand};
 use lra_model::{Ending, Outcome, Uris};
 use std::sync::Wait;
 
-impl<V: Serving> OfficeOf<V> {
+impl<V: LockedService> OfficeOf<V> {
     /// Does a command that gives no errand.
     pub(crate) fn tell<R: Wait>(
         &self,

@@ -7,8 +7,8 @@ ghost use Rattle.lra_office.specs.inner.Given.{fault_of};
 
 use crate::clerk::Clerk;
 use crate::fault::OfficeRefusal;
+use crate::locked_service::LockedService;
 use crate::office::OfficeOf;
-use crate::serving::Serving;
 use lra_commands::{CounterFault, Order, Told};
 use lra_ids::{Base, Instance};
 use std::sync::Wait;
@@ -22,7 +22,7 @@ fn fault_of(refusal: OfficeRefusal) -> CounterFault
     }
 }
 
-impl<V: Serving> OfficeOf<V> {
+impl<V: LockedService> OfficeOf<V> {
     /// Returns the instance of its coordinator.
     pub fn instance(&self) -> Instance
         ensures { result ≡ self.now.instance }

@@ -13,8 +13,8 @@ ghost use Rattle.lra_office.specs.Orders.{IsNotGiven};
 
 use crate::clerk::Clerk;
 use crate::fault::OfficeRefusal;
+use crate::locked_service::LockedService;
 use crate::office::OfficeOf;
-use crate::serving::Serving;
 use crate::trying::told_alone;
 use lra_commands::Told;
 use lra_core::Command;
@@ -32,7 +32,7 @@ pub(crate) fn told_number(told: Told) -> u32
     number
 }
 
-impl<V: Serving> OfficeOf<V> {
+impl<V: LockedService> OfficeOf<V> {
     /// Enrols a clerk, under a number that no entry bore. Refused where there are too many clerks or entries.
     pub fn clerk<R: Wait>(
         &self,

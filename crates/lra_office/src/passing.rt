@@ -9,11 +9,11 @@ ghost use Rattle.lra_ticket.specs.Views.{newcomer, moved};
 ghost use Rattle.lra_office.specs.Clerks.{clerk_view, IsClerkOf};
 
 use crate::clerk::Clerk;
+use crate::locked_service::LockedService;
 use crate::office::OfficeOf;
-use crate::serving::Serving;
 use lra_ticket::Pass;
 
-impl<V: Serving> OfficeOf<V> {
+impl<V: LockedService> OfficeOf<V> {
     /// Makes a second pass, by which a clerk can be enrolled: it has seen as much as the clerk.
     pub fn split(&self, clerk: Clerk<V>) -> (Clerk<V>, Pass<V>)
         requires { IsClerkOf self.now.lock V.covers clerk }

@@ -9,7 +9,7 @@ ghost use Rattle.lra_office.specs.Shut.{IsShut};
 use crate::clerk::Clerk;
 use crate::desk::Desk;
 use crate::office::Office;
-use lra_core::{CoordinatorOf, Counted};
+use lra_core::{CoordinatorOf, LengthOnly};
 use lra_scribe::Scribe;
 use std::io::Write;
 
@@ -19,7 +19,7 @@ impl<W: Write + Drop> Office<W> {
     pub fn shut(
         self,
         clerk: Clerk<Desk<W>>,
-    ) -> Result<(CoordinatorOf<Counted>, Scribe<W>), (Office<W>, Clerk<Desk<W>>)>
+    ) -> Result<(CoordinatorOf<LengthOnly>, Scribe<W>), (Office<W>, Clerk<Desk<W>>)>
         requires { IsClerkOf self.lock has_text clerk }
         ensures shut { IfOk result (λ kept. IsShut W.contents (clerk_view clerk) kept.0 kept.1) }
         ensures same { IfErr result (λ left. left.0 ≡ self) }

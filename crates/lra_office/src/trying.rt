@@ -14,8 +14,8 @@ ghost use Rattle.lra_office.specs.inner.Given.{IsNumberOf, refusal_of};
 
 use crate::clerk::Clerk;
 use crate::fault::TryRefusal;
+use crate::locked_service::LockedService;
 use crate::office::OfficeOf;
-use crate::serving::Serving;
 use lra_commands::Told;
 use lra_core::{Command, Committed};
 use lra_ticket::{Pass, TryFault};
@@ -41,7 +41,7 @@ pub(crate) fn told_alone(committed: Committed) -> Told
     told
 }
 
-impl<V: Serving> OfficeOf<V> {
+impl<V: LockedService> OfficeOf<V> {
     /// Does a command under the number of the pass, if the lock is free.
     fn try_give(
         &self,

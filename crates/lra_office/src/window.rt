@@ -9,9 +9,9 @@ ghost use Rattle.lra_office.specs.Windows.{IsOfficeOf};
 
 use crate::clerk::Clerk;
 use crate::fault::OfficeRefusal;
+use crate::locked_service::LockedService;
 use crate::office::OfficeOf;
-use crate::serving::Serving;
-use lra_commands::{Counter, CounterFault, Known, Order, Query, Session, Told};
+use lra_commands::{Counter, CounterFault, Order, Query, QueryResult, Session, Told};
 use lra_ids::{Base, Instance};
 use std::marker::{Brand, PhantomData};
 use std::sync::Wait;
@@ -31,7 +31,7 @@ impl WhichLock for Brand {
 }
 
 /// An office with one of its clerks, which gives its orders there as at a counter of its own.
-pub struct Window<'a, V: Serving, R, L: WhichLock> {
+pub struct Window<'a, V: LockedService, R, L: WhichLock> {
     rt: &'a R,
     office: &'a OfficeOf<V>,
     clerk: Clerk<V>,
@@ -41,7 +41,7 @@ pub struct Window<'a, V: Serving, R, L: WhichLock> {
     ghost here: { lock_id office.now.lock ≡ L.lock },
 }
 
-impl<'a, V: Serving, R, L: WhichLock> Window<'a, V, R, L> {
+impl<'a, V: LockedService, R, L: WhichLock> Window<'a, V, R, L> {
     /// Makes a window of an office, for a clerk of it.
     pub fn new(rt: &'a R, office: &'a OfficeOf<V>, clerk: Clerk<V>) -> Window<'a, V, R, L>
         requires there { IsClerkOf office.now.lock V.covers clerk }
@@ -73,9 +73,9 @@ impl<'a, V: Serving, R, L: WhichLock> Window<'a, V, R, L> {
     }
 }
 
-impl<V: Serving, R: Wait, L: WhichLock> Window<'_, V, R, L> {
+impl<V: LockedService, R: Wait, L: WhichLock> Window<'_, V, R, L> {
     /// Returns the result of its clerk's query, as `Office::query` does.
-    pub fn query(&mut self, query: Query) -> Result<Known, OfficeRefusal>
+    pub fn query(&mut self, query: Query) -> Result<QueryResult, OfficeRefusal>
         ensures number { self.new.clerk.number ≡ self.old.clerk.number }
         ensures known { IsQueried (V.setting (clerk_view self.old.clerk).origin) (clerk_view self.old.clerk) query
             result (clerk_view self.new.clerk) }
@@ -84,7 +84,7 @@ impl<V: Serving, R: Wait, L: WhichLock> Window<'_, V, R, L> {
     }
 }
 
-impl<V: Serving, R: Wait, L: WhichLock> Counter for Window<'_, V, R, L> {
+impl<V: LockedService, R: Wait, L: WhichLock> Counter for Window<'_, V, R, L> {
     ghost use Rattle.lra_commands.specs.Counters.{Sight};
     ghost use Rattle.lra_office.specs.Clerks.{clerk_view};
     ghost use Rattle.lra_office.specs.Stops.{KeepsInTurn};
@@ -114,7 +114,7 @@ impl<V: Serving, R: Wait, L: WhichLock> Counter for Window<'_, V, R, L> {
     }
 }
 
-impl<V: Serving, R: Wait, L: WhichLock> Session for Window<'_, V, R, L> {
+impl<V: LockedService, R: Wait, L: WhichLock> Session for Window<'_, V, R, L> {
     ghost use Rattle.lra_office.specs.Clerks.{clerk_view};
 
     ghost covers = { λ w n. V.covers (clerk_view w.clerk).origin (clerk_view w.clerk).seen n };

@@ -9,7 +9,7 @@ use crate::signals::{Signals, wait_for};
 use lra_core::Told;
 use lra_journal::read_journal;
 use lra_model::{ActionStatus, Entry};
-use lra_office::{Clerk, OfficeOf, OfficeRefusal, Serving, TryRefusal};
+use lra_office::{Clerk, LockedService, OfficeOf, OfficeRefusal, TryRefusal};
 use lra_ticket::Pass;
 use std::alloc::Global;
 use std::io::{self, Write};
@@ -21,7 +21,7 @@ use std::thread::{Threads, join};
 use std::time::Clock;
 
 /// Returns whether a clerk has the answers of one that is alone.
-fn acts_alone<V: Serving, R: Wait>(rt: &R, office: &OfficeOf<V>, clerk: &mut Clerk<V>) -> bool
+fn acts_alone<V: LockedService, R: Wait>(rt: &R, office: &OfficeOf<V>, clerk: &mut Clerk<V>) -> bool
     requires { IsClerkOf office.now.lock V.covers clerk.old }
     ensures { IsClerkOf office.now.lock V.covers clerk.new }
 {
@@ -33,7 +33,7 @@ fn acts_alone<V: Serving, R: Wait>(rt: &R, office: &OfficeOf<V>, clerk: &mut Cle
 }
 
 /// Enrols the only clerk of an office. Returns it, and whether it has the answers of one that is alone.
-fn alone<V: Serving, R: Wait>(
+fn alone<V: LockedService, R: Wait>(
     rt: &R,
     office: &OfficeOf<V>,
     pass: Pass<V>,
@@ -75,7 +75,7 @@ fn started(told: Result<Told, OfficeRefusal>) -> Option<u64> {
 }
 
 /// Starts an action, and returns its number.
-fn starts<V: Serving, R: Wait>(
+fn starts<V: LockedService, R: Wait>(
     rt: &R,
     office: &OfficeOf<V>,
     mut clerk: Clerk<V>,
@@ -93,7 +93,7 @@ fn starts<V: Serving, R: Wait>(
 }
 
 /// Enrols a clerk, which starts an action.
-fn enrols_and_starts<V: Serving, R: Wait>(
+fn enrols_and_starts<V: LockedService, R: Wait>(
     rt: &R,
     office: &OfficeOf<V>,
     pass: Pass<V>,
@@ -113,7 +113,7 @@ fn enrols_and_starts<V: Serving, R: Wait>(
 
 /// Starts an action by a clerk, and another by a clerk that is enrolled in a second thread. Returns both clerks, and
 /// the number of the second action.
-fn two<V: Serving + Send, R: Threads + Wait + Sync>(
+fn two<V: LockedService + Send, R: Threads + Wait + Sync>(
     rt: &R,
     office: &OfficeOf<V>,
     clerk: Clerk<V>,
@@ -166,7 +166,7 @@ fn counts(alloc: Global, journal: &[u8]) -> Result<(u32, u32, u32), Fail> {
 }
 
 /// Returns a clerk of two that met, and whether one has seen what the other did in its thread.
-fn sees_the_other<V: Serving + Send, R: Threads + Wait + Sync>(
+fn sees_the_other<V: LockedService + Send, R: Threads + Wait + Sync>(
     rt: &R,
     office: &OfficeOf<V>,
     pass: Pass<V>,
@@ -228,7 +228,11 @@ impl<R: Clock> Write for Slow<'_, R> {
 }
 
 /// Returns whether an action is started while the writer waits.
-fn starts_slowly<V: Serving, R: Wait>(rt: &R, office: &OfficeOf<V>, mut clerk: Clerk<V>) -> bool
+fn starts_slowly<V: LockedService, R: Wait>(
+    rt: &R,
+    office: &OfficeOf<V>,
+    mut clerk: Clerk<V>,
+) -> bool
     requires { IsClerkOf office.now.lock V.covers clerk }
 {
     let told = office.start(rt, &mut clerk, 1, None, 0);
@@ -237,7 +241,7 @@ fn starts_slowly<V: Serving, R: Wait>(rt: &R, office: &OfficeOf<V>, mut clerk: C
 }
 
 /// Returns whether a request for a status is refused as busy while the writer waits.
-fn is_told_busy<V: Serving, R: Clock>(
+fn is_told_busy<V: LockedService, R: Clock>(
     rt: &R,
     office: &OfficeOf<V>,
     mut clerk: Clerk<V>,
@@ -253,7 +257,7 @@ fn is_told_busy<V: Serving, R: Clock>(
 }
 
 /// Returns whether one clerk was refused because another held the lock, and that other was served.
-fn do_overlap<V: Serving + Send, R: Threads + Wait + Clock + Sync>(
+fn do_overlap<V: LockedService + Send, R: Threads + Wait + Clock + Sync>(
     rt: &R,
     office: &OfficeOf<V>,
     pass: Pass<V>,

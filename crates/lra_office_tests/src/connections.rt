@@ -8,7 +8,7 @@ ghost use Rattle.lra_ticket.specs.Locks.{lock_id, pass_id, pass_view};
 
 use crate::making::{enrolled_two, made, shut};
 use crate::workers::Still;
-use lra_office::{Clerk, OfficeOf, Serving};
+use lra_office::{Clerk, LockedService, OfficeOf};
 use lra_ticket::Pass;
 use lra_workers::{ServeEnd, serve_connections};
 use std::alloc::Global;
@@ -75,7 +75,7 @@ where
 }
 
 /// Serves one connection, and returns whether it ends well.
-fn answers_one<V: Serving, R: Wait>(
+fn answers_one<V: LockedService, R: Wait>(
     rt: &R,
     alloc: Global,
     acceptor: &Mutex<TcpListener>,
@@ -92,7 +92,7 @@ fn answers_one<V: Serving, R: Wait>(
 }
 
 /// Serves a connection in each of two threads, and returns whether both end well.
-fn two_answer<V: Serving + Send, R: Threads + Wait + Sync>(
+fn two_answer<V: LockedService + Send, R: Threads + Wait + Sync>(
     rt: &R,
     alloc: Global,
     acceptor: &Mutex<TcpListener>,
@@ -131,7 +131,7 @@ type Visited = (bool, io::Result<Vec<u8>>);
 /// Serves a connection by each of two workers, beside a client. Returns whether both end well, and the bytes that the
 /// client reads.
 fn visited<
-    V: Serving + Send,
+    V: LockedService + Send,
     R: Threads + Wait + Sync + Net<Listener = TcpListener, Stream = TcpStream>,
 >(
     rt: &R,

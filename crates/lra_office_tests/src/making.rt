@@ -10,7 +10,7 @@ ghost use Rattle.lra_ticket.specs.Locks.{lock_id, pass_id, pass_view};
 use lra_core::{Instance, Limits};
 use lra_ids::{Address, address};
 use lra_model::Uris;
-use lra_office::{Clerk, Desk, Office, OfficeOf, Serving};
+use lra_office::{Clerk, Desk, LockedService, Office, OfficeOf};
 use lra_ticket::Pass;
 use std::alloc::{AllocError, Global};
 use std::io::Write;
@@ -47,7 +47,7 @@ pub fn made<W: Write + Drop>(alloc: Global, writer: W) -> Result<(Office<W>, Pas
 }
 
 /// Enrols a clerk.
-pub fn enrolled<V: Serving, R: Wait>(
+pub fn enrolled<V: LockedService, R: Wait>(
     rt: &R,
     office: &OfficeOf<V>,
     pass: Pass<V>,
@@ -67,7 +67,7 @@ pub fn enrolled<V: Serving, R: Wait>(
 }
 
 /// Enrols two clerks.
-pub fn enrolled_two<V: Serving, R: Wait>(
+pub fn enrolled_two<V: LockedService, R: Wait>(
     rt: &R,
     office: &OfficeOf<V>,
     pass: Pass<V>,

@@ -9,7 +9,7 @@ use lra_auditor::{Summary, Verdict, audit};
 use lra_core::{Errand, Refusal, Told};
 use lra_journal::read_journal;
 use lra_model::{Deed, Entry, Outcome, Uris, suits};
-use lra_office::{Clerk, OfficeOf, OfficeRefusal, Serving};
+use lra_office::{Clerk, LockedService, OfficeOf, OfficeRefusal};
 use lra_ticket::Pass;
 use std::alloc::{AllocError, Global};
 use std::io::Write;
@@ -90,7 +90,7 @@ fn outcome_of(ask: u64) -> Outcome {
 
 /// Worker thread at an office.
 #[derive(Drop)]
-struct Worker<'a, V: Serving, R> {
+struct Worker<'a, V: LockedService, R> {
     rt: &'a R,
     alloc: Global,
     office: &'a OfficeOf<V>,
@@ -100,7 +100,7 @@ struct Worker<'a, V: Serving, R> {
     ghost there: { IsClerkOf office.now.lock V.covers clerk },
 }
 
-impl<V: Serving, R: Wait> Worker<'_, V, R> {
+impl<V: LockedService, R: Wait> Worker<'_, V, R> {
     fn start(&mut self, moment: u64) -> Option<u64> {
         let told = self.office.start(self.rt, &mut self.clerk, moment, None, 0);
         let Ok(Told::Action(action)) = told else {
@@ -229,7 +229,7 @@ impl<V: Serving, R: Wait> Worker<'_, V, R> {
 }
 
 /// Returns the entries that the clerk with this number writes.
-fn work_of<V: Serving, R: Wait>(
+fn work_of<V: LockedService, R: Wait>(
     rt: &R,
     alloc: Global,
     office: &OfficeOf<V>,
@@ -252,7 +252,7 @@ fn work_of<V: Serving, R: Wait>(
 }
 
 /// Adds clerks with the numbers from 1 on, and returns a pass for one more.
-fn clerks<V: Serving, R: Wait>(
+fn clerks<V: LockedService, R: Wait>(
     rt: &R,
     office: &OfficeOf<V>,
     mut pass: Pass<V>,
@@ -277,7 +277,7 @@ fn clerks<V: Serving, R: Wait>(
 type Written = Result<Vec<Option<Vec<Own>>>, AllocError>;
 
 /// Returns the entries that each clerk writes, in a thread of its own.
-fn work_all<V: Serving + Send, R: Threads + Wait + Sync>(
+fn work_all<V: LockedService + Send, R: Threads + Wait + Sync>(
     rt: &R,
     alloc: Global,
     office: &OfficeOf<V>,
@@ -295,7 +295,7 @@ fn work_all<V: Serving + Send, R: Threads + Wait + Sync>(
 }
 
 /// Returns the entries that each thread wrote at an office, and a clerk that is enrolled once all have ended.
-fn work_at<V: Serving + Send, R: Threads + Wait + Sync>(
+fn work_at<V: LockedService + Send, R: Threads + Wait + Sync>(
     rt: &R,
     alloc: Global,
     office: &OfficeOf<V>,

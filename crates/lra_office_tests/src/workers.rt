@@ -9,7 +9,7 @@ use lra_core::{Errand, Told};
 use lra_courier::Courier;
 use lra_front::Clock;
 use lra_model::{Outcome, suits};
-use lra_office::{Clerk, OfficeOf, Serving};
+use lra_office::{Clerk, LockedService, OfficeOf};
 use lra_ticket::Pass;
 use lra_workers::{Gate, Go, WorkerEnd, run_worker};
 use std::alloc::Global;
@@ -116,7 +116,7 @@ impl<R: time::Clock> Gate for Patient<'_, R> {
 }
 
 /// Lets the next member join the action.
-fn joins<V: Serving, R: Wait>(
+fn joins<V: LockedService, R: Wait>(
     rt: &R,
     alloc: Global,
     office: &OfficeOf<V>,
@@ -134,7 +134,7 @@ fn joins<V: Serving, R: Wait>(
 }
 
 /// Starts an action with this many members, and closes it.
-fn closes<V: Serving, R: Wait>(
+fn closes<V: LockedService, R: Wait>(
     rt: &R,
     alloc: Global,
     office: &OfficeOf<V>,
@@ -154,7 +154,7 @@ fn closes<V: Serving, R: Wait>(
 
 /// Runs a worker whose gate holds its errand back `holds` times. Returns the worker's end, and how often the gate was
 /// asked.
-fn holds_back<V: Serving, R: Wait>(
+fn holds_back<V: LockedService, R: Wait>(
     rt: &R,
     office: &OfficeOf<V>,
     clerk: Clerk<V>,
@@ -173,7 +173,7 @@ fn holds_back<V: Serving, R: Wait>(
 }
 
 /// Closes an action with one member by the first clerk of an office, and then runs `holds_back`.
-fn held_at<V: Serving, R: Wait>(
+fn held_at<V: LockedService, R: Wait>(
     rt: &R,
     alloc: Global,
     office: &OfficeOf<V>,
@@ -232,7 +232,7 @@ fn a_worker_that_is_held_back_ends_and_leaves_its_ask(rt: HostRuntime) -> Result
 }
 
 /// Runs a worker that answers one ask, and returns whether it ends well.
-fn answers_one<V: Serving, R: Wait + time::Clock>(
+fn answers_one<V: LockedService, R: Wait + time::Clock>(
     rt: &R,
     office: &OfficeOf<V>,
     clerk: Clerk<V>,
@@ -251,7 +251,7 @@ fn answers_one<V: Serving, R: Wait + time::Clock>(
 }
 
 /// Runs two workers, each in a thread of its own, and returns whether both end well.
-fn two_answer<V: Serving + Send, R: Threads + Wait + time::Clock + Sync>(
+fn two_answer<V: LockedService + Send, R: Threads + Wait + time::Clock + Sync>(
     rt: &R,
     office: &OfficeOf<V>,
     first: Clerk<V>,
@@ -280,7 +280,7 @@ fn two_answer<V: Serving + Send, R: Threads + Wait + time::Clock + Sync>(
 }
 
 /// Runs two workers at an office where two asks are due.
-fn overlap<V: Serving + Send, R: Threads + Wait + time::Clock + Sync>(
+fn overlap<V: LockedService + Send, R: Threads + Wait + time::Clock + Sync>(
     rt: &R,
     alloc: Global,
     office: &OfficeOf<V>,

@@ -5,7 +5,8 @@ use Rattle.lra_office.specs.Wholes.{whole_lines}
 use Rattle.lra_audits.specs.declared.fault.RunFault.TheVariants.{Read, Write, TooLong, Memory, Changed, Line}
 use Rattle.lra_course.specs.declared.verdict.Verdict.{Verdict}
 use Rattle.lra_auditor.specs.Verdicts.{IsVerdict}
-use Rattle.lra_audits.specs.Report.{joined, line_feed, status_of, ReportsAudit}
+use Rattle.lra_audits.specs.Report.{ReportsAudit}
+use Rattle.lra_verdict_lines.specs.VerdictLines.{joined, line_feed, status_of}
 use Rattle.lra_opening.specs.declared.fault.ServeFault.{ServeFault}
 use Rattle.lra_opening.specs.declared.fault.ServeFault.TheVariants.{Run, File, Address}
 

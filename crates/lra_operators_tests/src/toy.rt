@@ -4,7 +4,9 @@
 ghost use Rattle.std.specs.Prelude.{◌≡◌, true, IfSome};
 ghost use Rattle.lra_ids.specs.Addresses.{is_base};
 
-use lra_commands::{Awaited, CounterFault, Known, Listing, Order, Query, Refusal, Row, Told, Want};
+use lra_commands::{
+    Blocker, CounterFault, Listing, Order, Query, QueryResult, Refusal, Row, Told, Want,
+};
 use lra_ids::{Address, Base, Instance, base_of};
 use lra_model::{ActionStatus, AskKind, MemberStatus, Memory};
 use lra_outcomes::{Attempt, Reply};
@@ -88,12 +90,12 @@ fn action_row(action: u64, status: ActionStatus) -> Row {
 
 /// Returns the row at a place of all actions. If it isn't of the status that is asked for, it returns the place after
 /// it.
-fn action_at(status: Option<ActionStatus>, place: u64) -> Known {
+fn action_at(status: Option<ActionStatus>, place: u64) -> QueryResult {
     let action = place.saturating_add(1);
     match (action_status(action), status) {
-        (None, _) => Known::NoMore,
-        (Some(own), Some(wanted)) if !wanted.is_same(own) => Known::Further(action),
-        (Some(own), _) => Known::Row {
+        (None, _) => QueryResult::NoMore,
+        (Some(own), Some(wanted)) if !wanted.is_same(own) => QueryResult::Further(action),
+        (Some(own), _) => QueryResult::Row {
             place,
             row: action_row(action, own),
         },
@@ -133,32 +135,32 @@ const UNTOLD: Row = Row::Member {
 };
 
 /// Returns the row of a listing at a place.
-fn row_at(of: Listing, place: u64) -> Known {
+fn row_at(of: Listing, place: u64) -> QueryResult {
     match (of, place) {
         (Listing::Actions { status }, _) => action_at(status, place),
-        (Listing::Members { action: 2 }, 0) => Known::Row { place, row: ASKED },
-        (Listing::Members { action: 2 }, 1) => Known::Row { place, row: SILENT },
-        (Listing::Members { action: 3 }, 0) => Known::Row { place, row: UNTOLD },
-        (Listing::Nested { action: 1 }, 0) => Known::Row {
+        (Listing::Members { action: 2 }, 0) => QueryResult::Row { place, row: ASKED },
+        (Listing::Members { action: 2 }, 1) => QueryResult::Row { place, row: SILENT },
+        (Listing::Members { action: 3 }, 0) => QueryResult::Row { place, row: UNTOLD },
+        (Listing::Nested { action: 1 }, 0) => QueryResult::Row {
             place,
             row: action_row(2, ActionStatus::Closing),
         },
-        _ => Known::NoMore,
+        _ => QueryResult::NoMore,
     }
 }
 
 /// Returns whether the row at a place belongs to a listing, as a count of 1 or 0, and the place after it.
-fn count_at(of: Listing, place: u64) -> Known {
+fn count_at(of: Listing, place: u64) -> QueryResult {
     match row_at(of, place) {
-        Known::Row { .. } => Known::Counted {
+        QueryResult::Row { .. } => QueryResult::Counted {
             count: 1,
             next: Some(place.saturating_add(1)),
         },
-        Known::Further(next) => Known::Counted {
+        QueryResult::Further(next) => QueryResult::Counted {
             count: 0,
             next: Some(next),
         },
-        _ => Known::Counted {
+        _ => QueryResult::Counted {
             count: 0,
             next: None,
         },
@@ -166,28 +168,28 @@ fn count_at(of: Listing, place: u64) -> Known {
 }
 
 /// Returns what an action waits for.
-fn awaited_by(action: u64) -> Known {
+fn awaited_by(action: u64) -> QueryResult {
     match action {
-        1 => Known::Awaits {
+        1 => QueryResult::Awaits {
             place: 0,
-            awaited: Awaited::Action { action: 2 },
+            awaited: Blocker::Action { action: 2 },
         },
-        2 => Known::Awaits {
+        2 => QueryResult::Awaits {
             place: 0,
-            awaited: Awaited::Member {
+            awaited: Blocker::Member {
                 member: 1,
                 ask: Some(7),
             },
         },
-        _ => Known::AwaitsNothing,
+        _ => QueryResult::AwaitsNothing,
     }
 }
 
-fn told(query: Query) -> Option<Known> {
+fn told(query: Query) -> Option<QueryResult> {
     match query {
-        Query::ActionStatus { action } => Some(Known::ActionIs(action_status(action)?)),
-        Query::MemberStatus { member: 1 } => Some(Known::MemberIs(MemberStatus::Completing)),
-        Query::MemberStatus { member: 2 } => Some(Known::MemberIs(MemberStatus::Active)),
+        Query::ActionStatus { action } => Some(QueryResult::ActionIs(action_status(action)?)),
+        Query::MemberStatus { member: 1 } => Some(QueryResult::MemberIs(MemberStatus::Completing)),
+        Query::MemberStatus { member: 2 } => Some(QueryResult::MemberIs(MemberStatus::Active)),
         Query::MemberStatus { .. } => None,
         Query::Awaited { action, .. } => Some(awaited_by(action)),
         Query::Row { of, place } => Some(row_at(of, place)),
@@ -220,7 +222,7 @@ impl Overview for Toy {
         Ok(())
     }
 
-    fn query(&mut self, _instance: Instance, query: Query) -> Result<Known, CounterFault> {
+    fn query(&mut self, _instance: Instance, query: Query) -> Result<QueryResult, CounterFault> {
         told(query).ok_or(CounterFault::Refused(Refusal::NoSuchAction))
     }
 

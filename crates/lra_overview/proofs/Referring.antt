@@ -7,8 +7,8 @@ use Rattle.lra_model.specs.declared.status.ActionStatus.{ActionStatus}
 use Rattle.lra_model.specs.declared.status.ActionStatus.TheVariants as action_status
 use Rattle.lra_model.specs.declared.status.MemberStatus.{MemberStatus}
 use Rattle.lra_model.specs.declared.status.MemberStatus.TheVariants as member_status
-use Rattle.lra_commands.specs.declared.query.Awaited.{Awaited}
-use Rattle.lra_commands.specs.declared.query.Awaited.TheVariants as wanted
+use Rattle.lra_commands.specs.declared.query.Blocker.{Blocker}
+use Rattle.lra_commands.specs.declared.query.Blocker.TheVariants as wanted
 use Rattle.lra_commands.specs.declared.query.Want.{Want}
 use Rattle.lra_overview.specs.declared.gather.ActionRow.{ActionRow}
 use Rattle.lra_overview.specs.declared.gather.MemberRow.{MemberRow}
@@ -120,12 +120,12 @@ r_awaited_member i p (Some n) = simp (append_assoc, skip_id)
 s_awaited_member : (i : ℕ) (p : ℕ) (ask : Option ℕ) (y : List ℕ) → refers ((awaited_member i p ask) ++ y) ≡ refers y
 s_awaited_member i p ask y = skip_by (awaited_member i p ask) y (r_awaited_member i p ask)
 
-r_awaited : (i : ℕ) (w : Option Awaited) → refers (awaited i w) ≡ true
+r_awaited : (i : ℕ) (w : Option Blocker) → refers (awaited i w) ≡ true
 r_awaited i None = refl
 r_awaited i (Some (wanted.Action a)) = simp (append_assoc, skip_id)
 r_awaited i (Some (wanted.Member p ask)) = r_awaited_member i p ask
 
-s_awaited : (i : ℕ) (w : Option Awaited) (y : List ℕ) → refers ((awaited i w) ++ y) ≡ refers y
+s_awaited : (i : ℕ) (w : Option Blocker) (y : List ℕ) → refers ((awaited i w) ++ y) ≡ refers y
 s_awaited i w y = skip_by (awaited i w) y (r_awaited i w)
 
 r_age : (a : Option ℕ) → refers (age a) ≡ true
@@ -153,13 +153,13 @@ r_next_ask None None left = refl
 s_next_ask : (ask : Option ℕ) (w : Option Want) (left : ℕ) (y : List ℕ) → refers ((next_ask ask w left) ++ y) ≡ refers y
 s_next_ask ask w left y = skip_by (next_ask ask w left) y (r_next_ask ask w left)
 
-r_waits : (i : ℕ) (s : ActionStatus) (w : Option Awaited) → refers (waits_at i s w) ≡ true
+r_waits : (i : ℕ) (s : ActionStatus) (w : Option Blocker) → refers (waits_at i s w) ≡ true
 r_waits i action_status.Active w = r_awaited i w
 r_waits i action_status.Closing w = r_awaited i w
 r_waits i action_status.Cancelling w = r_awaited i w
 r_waits i _ w = refl
 
-s_waits : (i : ℕ) (s : ActionStatus) (w : Option Awaited) (y : List ℕ) → refers ((waits_at i s w) ++ y) ≡ refers y
+s_waits : (i : ℕ) (s : ActionStatus) (w : Option Blocker) (y : List ℕ) → refers ((waits_at i s w) ++ y) ≡ refers y
 s_waits i s w y = skip_by (waits_at i s w) y (r_waits i s w)
 
 r_waiting : (i : ℕ) (token : List ℕ) (k : Bool) (w : Waiting) → refers (waiting i token k w) ≡ true
@@ -284,19 +284,19 @@ s_lines i token k lines y = skip_by (flat_map (line i token k) lines) y (r_lines
 r_members : (i : ℕ) (token : List ℕ) (k : Bool) (lines : List Line) → refers (members i token k lines) ≡ true
 r_members i token k lines = simp (append_assoc, s_lines i token k lines)
 
-r_open_end : (i : ℕ) (w : Option Awaited) → refers (open_end i w) ≡ true
+r_open_end : (i : ℕ) (w : Option Blocker) → refers (open_end i w) ≡ true
 r_open_end i w = simp (append_assoc, s_awaited i w)
 
-s_open_end : (i : ℕ) (w : Option Awaited) (y : List ℕ) → refers ((open_end i w) ++ y) ≡ refers y
+s_open_end : (i : ℕ) (w : Option Blocker) (y : List ℕ) → refers ((open_end i w) ++ y) ≡ refers y
 s_open_end i w y = skip_by (open_end i w) y (r_open_end i w)
 
-r_wait : (i : ℕ) (s : ActionStatus) (w : Option Awaited) → refers (wait_at i s w) ≡ true
+r_wait : (i : ℕ) (s : ActionStatus) (w : Option Blocker) → refers (wait_at i s w) ≡ true
 r_wait i action_status.Active w = r_open_end i w
 r_wait i action_status.Closing w = r_open_end i w
 r_wait i action_status.Cancelling w = r_open_end i w
 r_wait i _ w = refl
 
-s_wait : (i : ℕ) (s : ActionStatus) (w : Option Awaited) (y : List ℕ) → refers ((wait_at i s w) ++ y) ≡ refers y
+s_wait : (i : ℕ) (s : ActionStatus) (w : Option Blocker) (y : List ℕ) → refers ((wait_at i s w) ++ y) ≡ refers y
 s_wait i s w y = skip_by (wait_at i s w) y (r_wait i s w)
 
 r_heading : (i : ℕ) (w : Waiting) → refers (heading i w) ≡ true

@@ -3,8 +3,8 @@ use Rattle.std.specs.Prelude.{ℕ, Bool, true, false, cond, List, [], ◌∷◌,
 use Rattle.std.specs.Fmt.{decimal}
 use Rattle.json.specs.Print.{quoted}
 use Rattle.lra_model.specs.Names.{action_status_name, member_status_name, ask_kind_name}
-use Rattle.lra_commands.specs.declared.query.Awaited.{Awaited}
-use Rattle.lra_commands.specs.declared.query.Awaited.TheVariants as wanted
+use Rattle.lra_commands.specs.declared.query.Blocker.{Blocker}
+use Rattle.lra_commands.specs.declared.query.Blocker.TheVariants as wanted
 use Rattle.lra_commands.specs.declared.query.Want.{Want}
 use Rattle.lra_overview.specs.declared.gather.ActionRow.{ActionRow}
 use Rattle.lra_overview.specs.declared.gather.MemberRow.{MemberRow}
@@ -91,7 +91,7 @@ members i is_first [] = []
 members i is_first (m ∷ ms) = before is_first ++ (member i m ++ members i false ms)
 
 -- what an action waits for, or null
-abbrev pub awaited : ℕ → Option Awaited → List ℕ
+abbrev pub awaited : ℕ → Option Blocker → List ℕ
 awaited i None = codes "null"
 awaited i (Some (wanted.Member p ask)) = joined (codes "{\"member\":\"" ∷ id_of i p ∷ codes "\"}" ∷ [])
 awaited i (Some (wanted.Action a)) = joined (codes "{\"action\":\"" ∷ id_of i a ∷ codes "\"}" ∷ [])

@@ -9,8 +9,8 @@ use Rattle.lra_model.specs.declared.status.ActionStatus.TheVariants as action_st
 use Rattle.lra_model.specs.declared.status.MemberStatus.{MemberStatus}
 use Rattle.lra_model.specs.declared.status.MemberStatus.TheVariants as member_status
 use Rattle.lra_model.specs.Names.{action_status_name, member_status_name, ask_kind_name}
-use Rattle.lra_commands.specs.declared.query.Awaited.{Awaited}
-use Rattle.lra_commands.specs.declared.query.Awaited.TheVariants as wanted
+use Rattle.lra_commands.specs.declared.query.Blocker.{Blocker}
+use Rattle.lra_commands.specs.declared.query.Blocker.TheVariants as wanted
 use Rattle.lra_commands.specs.declared.query.Want.{Want}
 use Rattle.lra_escape.specs.Escapes.{escaped}
 use Rattle.lra_outcomes.specs.Telling.{is_telling}
@@ -122,7 +122,7 @@ awaited_member i p None = joined (codes "member <code>" ∷ id_of i p ∷ codes 
 awaited_member i p (Some n) = joined (codes "member <code>" ∷ id_of i p ∷ codes "</code>, asked" ∷ [])
 
 -- what an action waits for
-abbrev pub awaited : ℕ → Option Awaited → List ℕ
+abbrev pub awaited : ℕ → Option Blocker → List ℕ
 awaited i None = codes "its end"
 awaited i (Some (wanted.Action a)) = joined
     (codes "action <a href=\"/page/actions/" ∷ id_of i a ∷ codes "\"><code>" ∷ id_of i a ∷ codes "</code></a>" ∷ [])
@@ -169,13 +169,13 @@ next_ask None (Some w) left = want w left
 next_ask None None left = []
 
 -- the outstanding ask to the member that an action waits for, if there is one
-abbrev pub ask_in : Option Awaited → Option ℕ
+abbrev pub ask_in : Option Blocker → Option ℕ
 ask_in (Some (wanted.Member p ask)) = ask
 ask_in (Some (wanted.Action a)) = None
 ask_in None = None
 
 -- what an action of a status waits for, if it hasn't ended
-abbrev pub waits_at : ℕ → ActionStatus → Option Awaited → List ℕ
+abbrev pub waits_at : ℕ → ActionStatus → Option Blocker → List ℕ
 waits_at i action_status.Active w = awaited i w
 waits_at i action_status.Closing w = awaited i w
 waits_at i action_status.Cancelling w = awaited i w
@@ -325,11 +325,11 @@ members i token have_key lines =
     )
 
 -- what an action waits for, after its status
-abbrev pub open_end : ℕ → Option Awaited → List ℕ
+abbrev pub open_end : ℕ → Option Blocker → List ℕ
 open_end i w = joined (codes ", waits for " ∷ awaited i w ∷ [])
 
 -- what an action of a status waits for, after the status, if it hasn't ended
-abbrev pub wait_at : ℕ → ActionStatus → Option Awaited → List ℕ
+abbrev pub wait_at : ℕ → ActionStatus → Option Blocker → List ℕ
 wait_at i action_status.Active w = open_end i w
 wait_at i action_status.Closing w = open_end i w
 wait_at i action_status.Cancelling w = open_end i w

@@ -11,7 +11,7 @@ use crate::page_parts::{Forms, begin, put_awaited, put_cancel, put_fields, put_n
 use crate::pieces::Piece;
 use crate::svg::put_tree;
 use crate::tree::Node;
-use lra_commands::{Awaited, Want};
+use lra_commands::{Blocker, Want};
 use lra_model::{ActionStatus, MemberStatus, Memory};
 use lra_outcomes::is_telling;
 
@@ -211,7 +211,7 @@ fn put_members(
 fn put_open_end(
     page: &mut Vec<u8>,
     names: &Names<'_>,
-    awaited: &Option<Awaited>,
+    awaited: &Option<Blocker>,
 ) -> Result<(), Memory>
     ensures { OnOk result (page.new.items ≡ page.old.items ++ pages.open_end names.now.instance awaited.now) }
 {

@@ -6,7 +6,7 @@ use crate::faults::Trouble;
 use crate::overview::Overview;
 use crate::shares::{NONE, Shares, add, add_shares, count_ended, count_ending};
 use crate::untold::Telling;
-use lra_commands::{Known, Listing, Query};
+use lra_commands::{Listing, Query, QueryResult};
 use lra_ids::Instance;
 use lra_model::ActionStatus;
 use std::alloc::Global;
@@ -73,7 +73,7 @@ fn count_at<O: Overview>(
 {
     let of = Listing::Actions { status };
     match overview.query(instance, Query::Count { of, place })? {
-        Known::Counted { count, next } => Ok(Part { count, next }),
+        QueryResult::Counted { count, next } => Ok(Part { count, next }),
         _ => Ok(Part {
             count: 0,
             next: None,

@@ -8,7 +8,7 @@ use crate::overdue::{Overdue, count_overdue};
 use crate::overview::Overview;
 use crate::shares::{NONE, Shares, add_shares, count_failed};
 use crate::unended::list_unended;
-use lra_commands::{CounterFault, Known, Query, Refusal};
+use lra_commands::{CounterFault, Query, QueryResult, Refusal};
 use lra_ids::Instance;
 use std::alloc::Global;
 
@@ -96,7 +96,7 @@ impl Totals {
 }
 
 /// Returns whether the action or member of a query exists, by the answer to the query.
-fn is_there(asked: Result<Known, CounterFault>) -> Result<bool, Trouble> {
+fn is_there(asked: Result<QueryResult, CounterFault>) -> Result<bool, Trouble> {
     match asked {
         Ok(_) => Ok(true),
         Err(CounterFault::Refused(Refusal::NoSuchAction | Refusal::NoSuchMember)) => Ok(false),

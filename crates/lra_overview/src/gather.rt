@@ -5,7 +5,7 @@ ghost use Rattle.std.specs.Prelude.{◌≡◌};
 use crate::faults::Trouble;
 use crate::laying::left_until;
 use crate::overview::Overview;
-use lra_commands::{Awaited, Known, Listing, Query, Row, Want};
+use lra_commands::{Blocker, Listing, Query, QueryResult, Row, Want};
 use lra_ids::Instance;
 use lra_model::{ActionStatus, MemberStatus};
 use std::alloc::Global;
@@ -43,7 +43,7 @@ pub struct Listed {
 #[derive(Clone, Copy)]
 pub struct Waiting {
     pub row: ActionRow,
-    pub awaited: Option<Awaited>,
+    pub awaited: Option<Blocker>,
     /// Ask that the awaited member is to get next, and the number of milliseconds that are left until then.
     pub want: Option<Want>,
     pub left: u64,
@@ -53,7 +53,7 @@ pub struct Waiting {
 
 impl Waiting {
     /// Returns an action of which only is known what it waits for.
-    pub fn new(row: ActionRow, awaited: Option<Awaited>) -> Waiting {
+    pub fn new(row: ActionRow, awaited: Option<Blocker>) -> Waiting {
         Waiting {
             row,
             awaited,
@@ -70,7 +70,7 @@ pub struct Shown {
     pub row: ActionRow,
     pub members: Vec<MemberRow>,
     pub nested: Vec<ActionRow>,
-    pub awaited: Option<Awaited>,
+    pub awaited: Option<Blocker>,
     /// Flag, set if there may be more members or nested actions than are shown.
     pub is_cut: bool,
 }
@@ -79,7 +79,7 @@ pub struct Shown {
 #[derive(Clone, Copy)]
 struct Held {
     place: u64,
-    awaited: Awaited,
+    awaited: Blocker,
 }
 
 /// A row, and its place.
@@ -102,8 +102,8 @@ fn next_row<O: Overview>(
     for _part in 0..u64::MAX {
         let known = overview.query(instance, Query::Row { of, place: from })?;
         match known {
-            Known::Row { place, row } => return Ok(Some(Placed { place, row })),
-            Known::Further(next) => from = next,
+            QueryResult::Row { place, row } => return Ok(Some(Placed { place, row })),
+            QueryResult::Further(next) => from = next,
             _ => return Ok(None),
         }
     }
@@ -241,8 +241,8 @@ fn held_by<O: Overview>(
             },
         )?;
         match known {
-            Known::Awaits { place, awaited } => return Ok(Some(Held { place, awaited })),
-            Known::Further(next) => from = next,
+            QueryResult::Awaits { place, awaited } => return Ok(Some(Held { place, awaited })),
+            QueryResult::Further(next) => from = next,
             _ => return Ok(None),
         }
     }
@@ -254,7 +254,7 @@ pub fn waits_for<O: Overview>(
     overview: &mut O,
     instance: Instance,
     action: u64,
-) -> Result<Option<Awaited>, Trouble>
+) -> Result<Option<Blocker>, Trouble>
     ensures { O.orders overview.new ≡ O.orders overview.old }
 {
     match held_by(overview, instance, action)? {
@@ -272,13 +272,13 @@ fn want_at<O: Overview>(
 ) -> Result<Option<Want>, Trouble>
     ensures { O.orders overview.new ≡ O.orders overview.old }
 {
-    let Awaited::Member { member, ask: None } = held.awaited else {
+    let Blocker::Member { member, ask: None } = held.awaited else {
         return Ok(None);
     };
     let of = Listing::Members { action };
     let place = held.place;
     match overview.query(instance, Query::Row { of, place })? {
-        Known::Row {
+        QueryResult::Row {
             row: Row::Member {
                 member: found,
                 want,

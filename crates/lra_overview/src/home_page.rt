@@ -10,7 +10,7 @@ use crate::overdue::Overdue;
 use crate::page_parts::{Forms, begin, put_awaited, put_cancel, put_next_ask};
 use crate::pieces::Piece;
 use crate::shares::Share;
-use lra_commands::Awaited;
+use lra_commands::Blocker;
 use lra_model::{ActionStatus, Memory};
 
 /// Adds how many actions have a status.
@@ -52,11 +52,11 @@ fn put_age(page: &mut Vec<u8>, names: &Names<'_>, age: Option<u64>) -> Result<()
 }
 
 /// Returns the outstanding ask to the member that an action waits for, if there is one.
-fn ask_in(awaited: &Option<Awaited>) -> Option<u64>
+fn ask_in(awaited: &Option<Blocker>) -> Option<u64>
     ensures { result ≡ pages.ask_in awaited.now }
 {
     match awaited {
-        Some(Awaited::Member { member: _, ask }) => *ask,
+        Some(Blocker::Member { member: _, ask }) => *ask,
         _ => None,
     }
 }

@@ -8,7 +8,7 @@ use crate::gather::{ActionRow, Waiting};
 use crate::laying::{put, put_json};
 use crate::names::Names;
 use crate::pieces::Piece;
-use lra_commands::{Awaited, Want};
+use lra_commands::{Blocker, Want};
 use lra_model::Memory;
 use std::alloc::Global;
 
@@ -155,13 +155,13 @@ fn put_members(page: &mut Vec<u8>, names: &Names<'_>, members: &[Line]) -> Resul
 fn put_awaited(
     page: &mut Vec<u8>,
     names: &Names<'_>,
-    awaited: &Option<Awaited>,
+    awaited: &Option<Blocker>,
 ) -> Result<(), Memory>
     ensures { OnOk result (page.new.items ≡ page.old.items ++ lists.awaited names.now.instance awaited.now) }
 {
     match awaited {
         None => names.put_all(page, &[Piece::Own("null")]),
-        Some(Awaited::Member { member, ask: _ }) => {
+        Some(Blocker::Member { member, ask: _ }) => {
             let pieces = [
                 Piece::Own("{\"member\":\""),
                 Piece::Id(*member),
@@ -169,7 +169,7 @@ fn put_awaited(
             ];
             names.put_all(page, &pieces)
         }
-        Some(Awaited::Action { action }) => {
+        Some(Blocker::Action { action }) => {
             let pieces = [
                 Piece::Own("{\"action\":\""),
                 Piece::Id(*action),

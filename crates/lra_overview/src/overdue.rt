@@ -7,7 +7,7 @@ use crate::attempts::is_at_it;
 use crate::census::{Census, STRETCH};
 use crate::faults::Trouble;
 use crate::overview::Overview;
-use lra_commands::{Known, Listing, Query, Row, Want};
+use lra_commands::{Listing, Query, QueryResult, Row, Want};
 use lra_ids::Instance;
 use lra_model::ActionStatus;
 use std::alloc::Global;
@@ -106,11 +106,11 @@ impl Tally {
         instance: Instance,
         of: Listing,
         place: u64,
-    ) -> Result<Known, Trouble>
+    ) -> Result<QueryResult, Trouble>
         ensures { O.orders overview.new ≡ O.orders overview.old }
     {
         if self.left == 0 {
-            return Ok(Known::NoMore);
+            return Ok(QueryResult::NoMore);
         }
         self.left -= 1;
         Ok(overview.query(instance, Query::Row { of, place })?)
@@ -143,7 +143,7 @@ impl Tally {
         let mut from = 0;
         for _row in 0..u64::MAX {
             match self.row(overview, instance, of, from)? {
-                Known::Row {
+                QueryResult::Row {
                     place,
                     row: Row::Member {
                         member,
@@ -155,8 +155,8 @@ impl Tally {
                     self.found.add_member(standing);
                     from = place.saturating_add(1);
                 }
-                Known::Row { place, .. } => from = place.saturating_add(1),
-                Known::Further(next) => from = next,
+                QueryResult::Row { place, .. } => from = place.saturating_add(1),
+                QueryResult::Further(next) => from = next,
                 _ => return Ok(()),
             }
         }
@@ -179,7 +179,7 @@ impl Tally {
         let mut from = start;
         for _row in 0..STRETCH {
             match self.row(overview, instance, of, from)? {
-                Known::Row {
+                QueryResult::Row {
                     place,
                     row: Row::Action { action, .. },
                 } if place.saturating_sub(start) < STRETCH => {

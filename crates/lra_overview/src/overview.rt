@@ -1,6 +1,6 @@
 //! The source that answers operators' queries and carries out their orders.
 
-use lra_commands::{CounterFault, Known, Order, Query, Told};
+use lra_commands::{CounterFault, Order, Query, QueryResult, Told};
 use lra_ids::{Base, Instance};
 use lra_model::Memory;
 use lra_outcomes::Attempt;
@@ -81,7 +81,7 @@ pub trait Overview {
         ensures { orders self.new ≡ orders self.old };
 
     /// Answers a query of a journal's history. It gives no order.
-    fn query(&mut self, instance: Instance, query: Query) -> Result<Known, CounterFault>
+    fn query(&mut self, instance: Instance, query: Query) -> Result<QueryResult, CounterFault>
         ensures { orders self.new ≡ orders self.old };
 
     /// Returns the last callback of a journal's member that didn't bring it further, if one is remembered.

@@ -7,7 +7,7 @@ ghost use Rattle.lra_overview.specs.Pages as pages;
 use crate::gather::ActionRow;
 use crate::names::Names;
 use crate::pieces::Piece;
-use lra_commands::{Awaited, Want};
+use lra_commands::{Blocker, Want};
 use lra_model::{ActionStatus, Memory};
 
 /// Secrets that the port requires of a form.
@@ -182,13 +182,13 @@ fn put_awaited_member(
 pub(crate) fn put_awaited(
     page: &mut Vec<u8>,
     names: &Names<'_>,
-    awaited: &Option<Awaited>,
+    awaited: &Option<Blocker>,
 ) -> Result<(), Memory>
     ensures { OnOk result (page.new.items ≡ page.old.items ++ pages.awaited names.now.instance awaited.now) }
 {
     match awaited {
         None => names.put_all(page, &[Piece::Own("its end")]),
-        Some(Awaited::Action { action }) => {
+        Some(Blocker::Action { action }) => {
             let pieces = [
                 Piece::Own("action <a href=\"/page/actions/"),
                 Piece::Id(*action),
@@ -198,7 +198,7 @@ pub(crate) fn put_awaited(
             ];
             names.put_all(page, &pieces)
         }
-        Some(Awaited::Member { member, ask }) => put_awaited_member(page, names, *member, *ask),
+        Some(Blocker::Member { member, ask }) => put_awaited_member(page, names, *member, *ask),
     }
 }
 

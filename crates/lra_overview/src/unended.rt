@@ -6,7 +6,7 @@ use crate::census::Census;
 use crate::faults::Trouble;
 use crate::gather::{ActionRow, Listed, Placed, action_at, action_in};
 use crate::overview::Overview;
-use lra_commands::{Known, Listing, Query};
+use lra_commands::{Listing, Query, QueryResult};
 use lra_ids::Instance;
 use lra_model::ActionStatus;
 use std::alloc::Global;
@@ -101,8 +101,8 @@ fn look<O: Overview>(
         status: Some(status),
     };
     match overview.query(instance, Query::Row { of, place })? {
-        Known::Row { place, row } => Ok(Ahead::Found(Placed { place, row })),
-        Known::Further(next) => Ok(Ahead::From(next)),
+        QueryResult::Row { place, row } => Ok(Ahead::Found(Placed { place, row })),
+        QueryResult::Further(next) => Ok(Ahead::From(next)),
         _ => Ok(Ahead::Nothing),
     }
 }

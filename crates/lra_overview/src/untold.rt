@@ -5,7 +5,7 @@ ghost use Rattle.lra_overview.specs.Standings as spec;
 
 use crate::faults::Trouble;
 use crate::overview::Overview;
-use lra_commands::{Known, Listing, Query, Row, Want};
+use lra_commands::{Listing, Query, QueryResult, Row, Want};
 use lra_ids::Instance;
 use std::alloc::Global;
 
@@ -78,7 +78,7 @@ impl Look {
             }
             let place = self.from;
             match overview.query(instance, Query::Row { of, place })? {
-                Known::Row {
+                QueryResult::Row {
                     place,
                     row: Row::Member {
                         member,
@@ -92,7 +92,7 @@ impl Look {
                     }
                     self.from = place.saturating_add(1);
                 }
-                Known::Further(next) => self.from = next,
+                QueryResult::Further(next) => self.from = next,
                 _ => return Ok(true),
             }
         }
@@ -125,7 +125,7 @@ impl Look {
         }
         let of = Listing::Actions { status: None };
         match overview.query(instance, Query::Row { of, place })? {
-            Known::Row {
+            QueryResult::Row {
                 row: Row::Action { action, status, .. },
                 ..
             } => {

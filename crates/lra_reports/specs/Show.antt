@@ -11,7 +11,7 @@ use Rattle.lra_course.specs.declared.listing.Account.{Account}
 use Rattle.lra_course.specs.declared.listing.Account.TheVariants.{Sound, Unsound}
 use Rattle.lra_course.specs.Listed.{Listed}
 use Rattle.lra_auditor.specs.Accounts.{IsAccount}
-use Rattle.lra_audits.specs.Report.{joined, line_feed, fault_line}
+use Rattle.lra_verdict_lines.specs.VerdictLines.{joined, line_feed, fault_line}
 
 -- a line for an action: its number, its parent's or `*`, and its status
 abbrev pub action_line : ListedAction → List ℕ

@@ -4,5 +4,6 @@ pub mod Numbered
 pub mod Reaching
 pub mod Rooms
 pub mod Settling
-pub mod SheetCounts
+pub mod SnapshotCounts
 pub mod Steps
+mod Texts

@@ -13,12 +13,12 @@ use Rattle.lra_model.specs.Words.{is_undecided}
 use Rattle.lra_model.specs.Members.{Asked}
 use Rattle.lra_model.specs.Wants.{stage_of}
 use Rattle.lra_laws.specs.Rows.{row_at, change_row}
-use Rattle.lra_laws.specs.Sheets.{Repeats, Contact, no_repeats, again, with_repeat, with_answer, new_contact}
+use Rattle.lra_laws.specs.Snapshots.{Repeats, Endpoint, no_repeats, again, with_repeat, with_answer, new_endpoint}
 use Rattle.lra_rows.specs.Rowed.{takes_one, is_ready_at}
 use Rattle.lra_rows.specs.Steps.{Repeated, without_last, with_repeats, repeats_back}
 use Rattle.lra_rows.specs.inner.Counts.{RepeatsTo}
 use Rattle.lra_rows.specs.inner.Held.{repeats_at}
-use Rattle.lra_rows.specs.inner.Reached.{Reached, contacts_in, ready_in, answered, with_stage, stages_back}
+use Rattle.lra_rows.specs.inner.Reached.{Reached, endpoints_in, ready_in, answered, with_stage, stages_back}
 use Rattle.lra_rows.proofs.Rooms.{row_at-map, map-change_row, map-same, change_none, map-more, map-without_last}
 use Rattle.lra_rows.proofs.Steps.{answer_back}
 use Rattle.lra_states.proofs.Replacing.{slice_get-set_same, slice_get-set_other}
@@ -27,7 +27,7 @@ use Rattle.std.proofs.lemmas.Bool.{cases_eq}
 -- ---- one member
 
 -- one more repeat is what was there, and one more
-pub repeated : (m : ℕ) (stage : AskKind) (c : Contact) → with_repeats stage (again m (repeats_at stage c)) c
+pub repeated : (m : ℕ) (stage : AskKind) (c : Endpoint) → with_repeats stage (again m (repeats_at stage c)) c
     ≡ with_repeat m stage c
 repeated m ask.Complete c = refl
 repeated m ask.Compensate c = refl
@@ -37,26 +37,26 @@ repeated m ask.Status c = refl
 
 -- a member that answered, with the repeats that it had
 pub answered_stays : (m : ℕ) (o : Outcome) (x : Asked) (r : Reached) → (is_undecided o ≡ true → r.is_ready ≡ true)
-    → with_stage (stage_of x.kind x.direction) (repeats_at (stage_of x.kind x.direction) r.contact) (answered m o x r)
+    → with_stage (stage_of x.kind x.direction) (repeats_at (stage_of x.kind x.direction) r.endpoint) (answered m o x r)
     ≡ r
-answered_stays m o x r ready = λ i. record r { contact = by_place r.is_ready refl i }
+answered_stays m o x r ready = λ i. record r { endpoint = by_place r.is_ready refl i }
   where
     stage : AskKind
     stage = stage_of x.kind x.direction
 
-    by_outcome : (b : Bool) → is_undecided o ≡ b → r.is_ready ≡ false → with_answer m o x r.contact ≡ r.contact
-    by_outcome false e g = ap (λ (b : Bool). cond b (with_repeat m stage r.contact) r.contact) e
+    by_outcome : (b : Bool) → is_undecided o ≡ b → r.is_ready ≡ false → with_answer m o x r.endpoint ≡ r.endpoint
+    by_outcome false e g = ap (λ (b : Bool). cond b (with_repeat m stage r.endpoint) r.endpoint) e
     by_outcome true e g = absurd (let h = ready e in cc)
 
-    by_place : (b : Bool) → r.is_ready ≡ b → cond b (with_repeats stage (repeats_at stage r.contact)
-        (with_answer m o x r.contact)) (with_answer m o x r.contact) ≡ r.contact
-    by_place true g = answer_back m o x r.contact
+    by_place : (b : Bool) → r.is_ready ≡ b → cond b (with_repeats stage (repeats_at stage r.endpoint)
+        (with_answer m o x r.endpoint)) (with_answer m o x r.endpoint) ≡ r.endpoint
+    by_place true g = answer_back m o x r.endpoint
     by_place false g = by_outcome (is_undecided o) refl g
 
 -- what is known of one of them is known where it stands
 pub few_at : (n : ℕ) (rows : List Reached) (p : ℕ) (x : Reached) → row_at rows p ≡ Some x
-    → IfSome (row_at (contacts_in rows) p) (RepeatsTo n) → RepeatsTo n x.contact
-few_at n rows p x there h = (rw (row_at-map (λ (r : Reached). r.contact) rows p, there) at h)
+    → IfSome (row_at (endpoints_in rows) p) (RepeatsTo n) → RepeatsTo n x.endpoint
+few_at n rows p x there h = (rw (row_at-map (λ (r : Reached). r.endpoint) rows p, there) at h)
 
 pub ready_at : (rows : List Reached) (p : ℕ) (x : Reached) → row_at rows p ≡ Some x → is_ready_at (ready_in rows) p
     ≡ true → x.is_ready ≡ true
@@ -66,8 +66,8 @@ ready_at rows p x there h = (rw (row_at-map (λ (r : Reached). r.is_ready) rows 
 
 -- a member answers
 pub contacts_answered : (m : ℕ) (o : Outcome) (x : Asked) (n : ℕ) (rows : List Reached)
-    → contacts_in (change_row (answered m o x) n rows) ≡ change_row (with_answer m o x) n (contacts_in rows)
-contacts_answered m o x n rows = map-change_row (λ (r : Reached). r.contact) (answered m o x) (with_answer m o x)
+    → endpoints_in (change_row (answered m o x) n rows) ≡ change_row (with_answer m o x) n (endpoints_in rows)
+contacts_answered m o x n rows = map-change_row (λ (r : Reached). r.endpoint) (answered m o x) (with_answer m o x)
     (λ r. refl) n rows
 
 pub ready_answered : (m : ℕ) (o : Outcome) (x : Asked) (n : ℕ) (rows : List Reached)
@@ -77,45 +77,46 @@ ready_answered m o x n rows = map-change_row (λ (r : Reached). r.is_ready) (ans
 
 -- and its repeats are put back
 contacts_put : (stage : AskKind) (repeats : Repeats) (n : ℕ) (rows : List Reached)
-    → contacts_in (change_row (with_stage stage repeats) n rows) ≡ cond (is_ready_at (ready_in rows) n)
-    (change_row (with_repeats stage repeats) n (contacts_in rows)) (contacts_in rows)
+    → endpoints_in (change_row (with_stage stage repeats) n rows) ≡ cond (is_ready_at (ready_in rows) n)
+    (change_row (with_repeats stage repeats) n (endpoints_in rows)) (endpoints_in rows)
 contacts_put stage repeats zero rows = refl
 contacts_put stage repeats (suc k) rows =
     of_row (slice_get rows k) refl
     ∙ sym (ap (λ (o : Option Bool). cond (option_map_or (λ b. b) o true)
-    (change_row (with_repeats stage repeats) (suc k) (contacts_in rows)) (contacts_in rows))
+    (change_row (with_repeats stage repeats) (suc k) (endpoints_in rows)) (endpoints_in rows))
     (slice_get-map (λ (r : Reached). r.is_ready) rows k))
   where
-    there : (o : Option Reached) → slice_get rows k ≡ o → slice_get (contacts_in rows) k
-        ≡ option_map (λ (r : Reached). r.contact) o
-    there o e = slice_get-map (λ (r : Reached). r.contact) rows k ∙ ap (option_map (λ (r : Reached). r.contact)) e
+    there : (o : Option Reached) → slice_get rows k ≡ o → slice_get (endpoints_in rows) k
+        ≡ option_map (λ (r : Reached). r.endpoint) o
+    there o e = slice_get-map (λ (r : Reached). r.endpoint) rows k ∙ ap (option_map (λ (r : Reached). r.endpoint)) e
 
     of_place : (r : Reached) → slice_get rows k ≡ Some r → (b : Bool) → r.is_ready ≡ b
-        → contacts_in (slice_set rows k (with_stage stage repeats r)) ≡ cond b
-        (change_row (with_repeats stage repeats) (suc k) (contacts_in rows)) (contacts_in rows)
+        → endpoints_in (slice_set rows k (with_stage stage repeats r)) ≡ cond b
+        (change_row (with_repeats stage repeats) (suc k) (endpoints_in rows)) (endpoints_in rows)
     of_place r e true g =
-        map-set (λ (r : Reached). r.contact) rows k (with_stage stage repeats r)
-        ∙ ap (λ (b : Bool). slice_set (contacts_in rows) k (cond b (with_repeats stage repeats r.contact) r.contact)) g
-        ∙ sym (ap (λ (o : Option Contact). option_map_or (λ (c : Contact). slice_set (contacts_in rows) k
-        (with_repeats stage repeats c)) o (contacts_in rows)) (there (Some r) e))
-    of_place r e false g = map-same (λ (r : Reached). r.contact) rows k r (with_stage stage repeats r) e
-        (ap (λ (b : Bool). cond b (with_repeats stage repeats r.contact) r.contact) g)
+        map-set (λ (r : Reached). r.endpoint) rows k (with_stage stage repeats r)
+        ∙ ap (λ (b : Bool). slice_set (endpoints_in rows) k (cond b (with_repeats stage repeats r.endpoint) r.endpoint))
+        g
+        ∙ sym (ap (λ (o : Option Endpoint). option_map_or (λ (c : Endpoint). slice_set (endpoints_in rows) k
+        (with_repeats stage repeats c)) o (endpoints_in rows)) (there (Some r) e))
+    of_place r e false g = map-same (λ (r : Reached). r.endpoint) rows k r (with_stage stage repeats r) e
+        (ap (λ (b : Bool). cond b (with_repeats stage repeats r.endpoint) r.endpoint) g)
 
     of_row : (o : Option Reached) → slice_get rows k ≡ o
-        → contacts_in (change_row (with_stage stage repeats) (suc k) rows)
+        → endpoints_in (change_row (with_stage stage repeats) (suc k) rows)
         ≡ cond (option_map_or (λ b. b) (option_map (λ (r : Reached). r.is_ready) (slice_get rows k)) true)
-        (change_row (with_repeats stage repeats) (suc k) (contacts_in rows)) (contacts_in rows)
+        (change_row (with_repeats stage repeats) (suc k) (endpoints_in rows)) (endpoints_in rows)
     of_row None e =
         rw (e, there None e) refl
     of_row (Some r) e =
-        ap (λ (o : Option Reached). contacts_in
+        ap (λ (o : Option Reached). endpoints_in
         (option_map_or (λ (x : Reached). slice_set rows k (with_stage stage repeats x)) o rows)) e
         ∙ of_place r e r.is_ready refl
         ∙ sym (ap (λ (o : Option Reached). cond (option_map_or (λ b. b) (option_map (λ (r : Reached). r.is_ready) o)
-        true) (change_row (with_repeats stage repeats) (suc k) (contacts_in rows)) (contacts_in rows)) e)
+        true) (change_row (with_repeats stage repeats) (suc k) (endpoints_in rows)) (endpoints_in rows)) e)
 
-pub contacts_back : (o : Option Repeated) (rows : List Reached) → contacts_in (stages_back o rows)
-    ≡ repeats_back o (ready_in rows) (contacts_in rows)
+pub contacts_back : (o : Option Repeated) (rows : List Reached) → endpoints_in (stages_back o rows)
+    ≡ repeats_back o (ready_in rows) (endpoints_in rows)
 contacts_back None rows = refl
 contacts_back (Some x) rows = contacts_put x.stage x.repeats x.member rows
 
@@ -151,50 +152,51 @@ ready_past rows k there = rw (row_at-map (λ (r : Reached). r.is_ready) rows (su
 
 -- ---- the rows, one more and one less
 
-pub contacts_more : (rows : List Reached) (uris : Addresses) → contacts_in
-    (rows ++ record { contact = new_contact uris; is_ready = false } ∷ []) ≡ contacts_in rows ++ new_contact uris ∷ []
-contacts_more rows uris = map-more (λ (r : Reached). r.contact) rows (record
-    { contact = new_contact uris; is_ready = false })
+pub contacts_more : (rows : List Reached) (uris : Addresses) → endpoints_in
+    (rows ++ record { endpoint = new_endpoint uris; is_ready = false } ∷ []) ≡ endpoints_in rows
+    ++ new_endpoint uris ∷ []
+contacts_more rows uris = map-more (λ (r : Reached). r.endpoint) rows (record
+    { endpoint = new_endpoint uris; is_ready = false })
 
 pub ready_more : (rows : List Reached) (uris : Addresses) → ready_in (rows
-    ++ record { contact = new_contact uris; is_ready = false } ∷ []) ≡ ready_in rows ++ false ∷ []
+    ++ record { endpoint = new_endpoint uris; is_ready = false } ∷ []) ≡ ready_in rows ++ false ∷ []
 ready_more rows uris = map-more (λ (r : Reached). r.is_ready) rows (record
-    { contact = new_contact uris; is_ready = false })
+    { endpoint = new_endpoint uris; is_ready = false })
 
-pub contacts_less : (rows : List Reached) → contacts_in (without_last rows) ≡ without_last (contacts_in rows)
-contacts_less rows = map-without_last (λ (r : Reached). r.contact) rows
+pub contacts_less : (rows : List Reached) → endpoints_in (without_last rows) ≡ without_last (endpoints_in rows)
+contacts_less rows = map-without_last (λ (r : Reached). r.endpoint) rows
 
 pub ready_less : (rows : List Reached) → ready_in (without_last rows) ≡ without_last (ready_in rows)
 ready_less rows = map-without_last (λ (r : Reached). r.is_ready) rows
 
 -- there is as much room
-pub takes_reached : (rows : List Reached) (capacity : ℕ) → takes_one (contacts_in rows) capacity
+pub takes_reached : (rows : List Reached) (capacity : ℕ) → takes_one (endpoints_in rows) capacity
     ≡ takes_one rows capacity
-takes_reached rows capacity = ap (λ (n : ℕ). nat_lt n capacity) (length-map rows (λ (r : Reached). r.contact))
+takes_reached rows capacity = ap (λ (n : ℕ). nat_lt n capacity) (length-map rows (λ (r : Reached). r.endpoint))
 
 -- what is read of one that is there
 pub addresses_at : (rows : List Reached) (n : ℕ) (o : Option Reached) → o ≡ row_at rows n
-    → option_map (λ (r : Reached). r.contact.addresses) o ≡ option_map (λ (c : Contact). c.addresses)
-    (row_at (contacts_in rows) n)
-addresses_at rows n o e = of_row o ∙ ap (λ (x : Option Reached). option_map (λ (c : Contact). c.addresses)
-    (option_map (λ (r : Reached). r.contact) x)) e ∙ sym (ap (option_map (λ (c : Contact). c.addresses))
-    (row_at-map (λ (r : Reached). r.contact) rows n))
+    → option_map (λ (r : Reached). r.endpoint.addresses) o ≡ option_map (λ (c : Endpoint). c.addresses)
+    (row_at (endpoints_in rows) n)
+addresses_at rows n o e = of_row o ∙ ap (λ (x : Option Reached). option_map (λ (c : Endpoint). c.addresses)
+    (option_map (λ (r : Reached). r.endpoint) x)) e ∙ sym (ap (option_map (λ (c : Endpoint). c.addresses))
+    (row_at-map (λ (r : Reached). r.endpoint) rows n))
   where
-    of_row : (o : Option Reached) → option_map (λ (r : Reached). r.contact.addresses) o
-        ≡ option_map (λ (c : Contact). c.addresses) (option_map (λ (r : Reached). r.contact) o)
+    of_row : (o : Option Reached) → option_map (λ (r : Reached). r.endpoint.addresses) o
+        ≡ option_map (λ (c : Endpoint). c.addresses) (option_map (λ (r : Reached). r.endpoint) o)
     of_row None = refl
     of_row (Some r) = refl
 
 pub repeats_of : (rows : List Reached) (n : ℕ) (stage : AskKind) (o : Option Reached) → o ≡ row_at rows n
-    → option_map_or (λ (r : Reached). repeats_at stage r.contact) o no_repeats
-    ≡ option_map_or (repeats_at stage) (row_at (contacts_in rows) n) no_repeats
+    → option_map_or (λ (r : Reached). repeats_at stage r.endpoint) o no_repeats
+    ≡ option_map_or (repeats_at stage) (row_at (endpoints_in rows) n) no_repeats
 repeats_of rows n stage o e = of_row o ∙ ap (λ (x : Option Reached). option_map_or (repeats_at stage)
-    (option_map (λ (r : Reached). r.contact) x) no_repeats) e ∙ sym (ap
-    (λ (x : Option Contact). option_map_or (repeats_at stage) x no_repeats)
-    (row_at-map (λ (r : Reached). r.contact) rows n))
+    (option_map (λ (r : Reached). r.endpoint) x) no_repeats) e ∙ sym (ap
+    (λ (x : Option Endpoint). option_map_or (repeats_at stage) x no_repeats)
+    (row_at-map (λ (r : Reached). r.endpoint) rows n))
   where
-    of_row : (o : Option Reached) → option_map_or (λ (r : Reached). repeats_at stage r.contact) o no_repeats
-        ≡ option_map_or (repeats_at stage) (option_map (λ (r : Reached). r.contact) o) no_repeats
+    of_row : (o : Option Reached) → option_map_or (λ (r : Reached). repeats_at stage r.endpoint) o no_repeats
+        ≡ option_map_or (repeats_at stage) (option_map (λ (r : Reached). r.endpoint) o) no_repeats
     of_row None = refl
     of_row (Some r) = refl
 

@@ -12,14 +12,15 @@ use Rattle.lra_model.specs.declared.entry.Entry.{Entry}
 use Rattle.lra_model.specs.Words.{is_undecided}
 use Rattle.lra_model.specs.Members.{Asked}
 use Rattle.lra_laws.specs.Rows.{row_at, change_row}
-use Rattle.lra_laws.specs.Sheets.{Nest, with_child_number, with_member_number, with_number_under, new_nest, top_at}
+use Rattle.lra_laws.specs.Snapshots.{Nesting, with_child_number, with_member_number, with_number_under, new_nesting}
+use Rattle.lra_laws.specs.Snapshots.{top_at}
 use Rattle.lra_laws.proofs.Tested.{both, and_intro}
 use Rattle.lra_rows.specs.Rowed.{NestCapacity, no_capacity, Rowed, takes_one, takes_child, takes_under, is_ready_at}
 use Rattle.lra_rows.specs.Rowed.{deed_has_room, has_room}
 use Rattle.lra_rows.specs.Steps.{without_last}
-use Rattle.lra_rows.specs.declared.nest.Listed.{Listed}
-use Rattle.lra_rows.specs.declared.nest.Listed.TheVariants as listed
-use Rattle.lra_rows.specs.inner.Nested.{Nested, nests_in, capacities_in, has_place, has_place_at, nest_with}
+use Rattle.lra_rows.specs.declared.nesting.Listed.{Listed}
+use Rattle.lra_rows.specs.declared.nesting.Listed.TheVariants as listed
+use Rattle.lra_rows.specs.inner.Nested.{Nested, nestings_in, capacities_in, has_place, has_place_at, nest_with}
 use Rattle.lra_rows.specs.inner.Nested.{with_number, nest_without, without_number}
 use Rattle.lra_rows.specs.inner.Room.{Keeps}
 use Rattle.lra_rows.specs.inner.Counts.{DeepTo}
@@ -70,9 +71,10 @@ change_none (suc k) rows = at k rows
 -- ---- lists with a place
 
 -- a number goes to a list
-pub nests-with : (l : Listed) (number a : ℕ) (rows : List Nested) → nests_in (change_row (with_number l number) a rows)
-    ≡ change_row (nest_with l number) a (nests_in rows)
-nests-with l number a rows = map-change_row (λ (n : Nested). n.nest) (with_number l number) (nest_with l number)
+pub nestings-with : (l : Listed) (number a : ℕ) (rows : List Nested)
+    → nestings_in (change_row (with_number l number) a rows)
+    ≡ change_row (nest_with l number) a (nestings_in rows)
+nestings-with l number a rows = map-change_row (λ (n : Nested). n.nesting) (with_number l number) (nest_with l number)
     (λ n. refl) a rows
 
 pub capacities-with : (l : Listed) (number a : ℕ) (rows : List Nested)
@@ -106,62 +108,64 @@ place_past rows k l there = rw there refl
 
 -- how deep an action is nested is bounded, where each is
 pub depth_bounded : (n : ℕ) (rows : List Nested) (a : ℕ) (x : Nested) → row_at rows a ≡ Some x
-    → IfSome (row_at (nests_in rows) a) (DeepTo n) → x.nest.depth ≤ n
-depth_bounded n rows a x there h = (rw (row_at-map (λ (y : Nested). y.nest) rows a, there) at h)
+    → IfSome (row_at (nestings_in rows) a) (DeepTo n) → x.nesting.depth ≤ n
+depth_bounded n rows a x there h = (rw (row_at-map (λ (y : Nested). y.nesting) rows a, there) at h)
 
 -- whether a list takes one more, where the actions' lists and what these hold are read apart
-abbrev pub apart : (Nest → List ℕ) → (NestCapacity → ℕ) → List Nested → ℕ → Bool
-apart list capacity rows a = option_map_or (λ (n : Nest). option_map_or
+abbrev pub apart : (Nesting → List ℕ) → (NestCapacity → ℕ) → List Nested → ℕ → Bool
+apart list capacity rows a = option_map_or (λ (n : Nesting). option_map_or
     (λ (c : NestCapacity). takes_one (list n) (capacity c)) (row_at (capacities_in rows) a) true)
-    (row_at (nests_in rows) a) true
+    (row_at (nestings_in rows) a) true
 
-places : (list : Nest → List ℕ) (capacity : NestCapacity → ℕ) (rows : List Nested) (a : ℕ) → apart list capacity rows a
-    ≡ option_map_or (λ (n : Nested). takes_one (list n.nest) (capacity n.capacity)) (row_at rows a) true
+places : (list : Nesting → List ℕ) (capacity : NestCapacity → ℕ) (rows : List Nested) (a : ℕ)
+    → apart list capacity rows a
+    ≡ option_map_or (λ (n : Nested). takes_one (list n.nesting) (capacity n.capacity)) (row_at rows a) true
 places list capacity rows a =
-    ap (λ (o : Option Nest). option_map_or (λ (n : Nest). option_map_or
+    ap (λ (o : Option Nesting). option_map_or (λ (n : Nesting). option_map_or
     (λ (c : NestCapacity). takes_one (list n) (capacity c)) (row_at (capacities_in rows) a) true) o true)
-    (row_at-map (λ (n : Nested). n.nest) rows a)
-    ∙ ap (λ (p : Option NestCapacity). option_map_or (λ (n : Nest). option_map_or
+    (row_at-map (λ (n : Nested). n.nesting) rows a)
+    ∙ ap (λ (p : Option NestCapacity). option_map_or (λ (n : Nesting). option_map_or
     (λ (c : NestCapacity). takes_one (list n) (capacity c)) p true)
-    (option_map (λ (n : Nested). n.nest) (row_at rows a)) true) (row_at-map (λ (n : Nested). n.capacity) rows a)
+    (option_map (λ (n : Nested). n.nesting) (row_at rows a)) true) (row_at-map (λ (n : Nested). n.capacity) rows a)
     ∙ of_row (row_at rows a)
   where
-    of_row : (o : Option Nested) → option_map_or (λ (n : Nest). option_map_or
+    of_row : (o : Option Nested) → option_map_or (λ (n : Nesting). option_map_or
         (λ (c : NestCapacity). takes_one (list n) (capacity c)) (option_map (λ (n : Nested). n.capacity) o) true)
-        (option_map (λ (n : Nested). n.nest) o) true ≡ option_map_or (λ (n : Nested). takes_one (list n.nest)
+        (option_map (λ (n : Nested). n.nesting) o) true ≡ option_map_or (λ (n : Nested). takes_one (list n.nesting)
         (capacity n.capacity)) o true
     of_row None = refl
     of_row (Some n) = refl
 
-pub child_place : (rows : List Nested) (a : ℕ) → apart (λ (n : Nest). n.children) (λ (c : NestCapacity). c.children)
+pub child_place : (rows : List Nested) (a : ℕ) → apart (λ (n : Nesting). n.children) (λ (c : NestCapacity). c.children)
     rows a ≡ has_place_at listed.Children a rows
-child_place rows a = places (λ (n : Nest). n.children) (λ (c : NestCapacity). c.children) rows a
+child_place rows a = places (λ (n : Nesting). n.children) (λ (c : NestCapacity). c.children) rows a
 
-pub member_place : (rows : List Nested) (a : ℕ) → apart (λ (n : Nest). n.members) (λ (c : NestCapacity). c.members) rows
+pub member_place : (rows : List Nested) (a : ℕ) → apart (λ (n : Nesting). n.members) (λ (c : NestCapacity). c.members)
+    rows
     a ≡ has_place_at listed.Members a rows
-member_place rows a = places (λ (n : Nest). n.members) (λ (c : NestCapacity). c.members) rows a
+member_place rows a = places (λ (n : Nesting). n.members) (λ (c : NestCapacity). c.members) rows a
 
-pub under_place : (rows : List Nested) (a : ℕ) → apart (λ (n : Nest). n.under) (λ (c : NestCapacity). c.under) rows a
+pub under_place : (rows : List Nested) (a : ℕ) → apart (λ (n : Nesting). n.under) (λ (c : NestCapacity). c.under) rows a
     ≡ has_place_at listed.Under a rows
-under_place rows a = places (λ (n : Nest). n.under) (λ (c : NestCapacity). c.under) rows a
+under_place rows a = places (λ (n : Nesting). n.under) (λ (c : NestCapacity). c.under) rows a
 
 -- the lists of the actions take what they took
 abbrev pub KeepsPlaces : List Nested → List Nested → Type 0
 KeepsPlaces rows more = (l : Listed) (a : ℕ) → has_place_at l a rows ≡ true → has_place_at l a more ≡ true
 
 pub children_kept : (rows more : List Nested) → KeepsPlaces rows more → (a : ℕ)
-    → apart (λ (n : Nest). n.children) (λ (c : NestCapacity). c.children) rows a ≡ true
-    → apart (λ (n : Nest). n.children) (λ (c : NestCapacity). c.children) more a ≡ true
+    → apart (λ (n : Nesting). n.children) (λ (c : NestCapacity). c.children) rows a ≡ true
+    → apart (λ (n : Nesting). n.children) (λ (c : NestCapacity). c.children) more a ≡ true
 children_kept rows more kept a h = child_place more a ∙ kept listed.Children a (sym (child_place rows a) ∙ h)
 
 pub members_kept : (rows more : List Nested) → KeepsPlaces rows more → (a : ℕ)
-    → apart (λ (n : Nest). n.members) (λ (c : NestCapacity). c.members) rows a ≡ true
-    → apart (λ (n : Nest). n.members) (λ (c : NestCapacity). c.members) more a ≡ true
+    → apart (λ (n : Nesting). n.members) (λ (c : NestCapacity). c.members) rows a ≡ true
+    → apart (λ (n : Nesting). n.members) (λ (c : NestCapacity). c.members) more a ≡ true
 members_kept rows more kept a h = member_place more a ∙ kept listed.Members a (sym (member_place rows a) ∙ h)
 
 pub under_kept : (rows more : List Nested) → KeepsPlaces rows more → (a : ℕ)
-    → apart (λ (n : Nest). n.under) (λ (c : NestCapacity). c.under) rows a ≡ true
-    → apart (λ (n : Nest). n.under) (λ (c : NestCapacity). c.under) more a ≡ true
+    → apart (λ (n : Nesting). n.under) (λ (c : NestCapacity). c.under) rows a ≡ true
+    → apart (λ (n : Nesting). n.under) (λ (c : NestCapacity). c.under) more a ≡ true
 under_kept rows more kept a h = under_place more a ∙ kept listed.Under a (sym (under_place rows a) ∙ h)
 
 -- a place that isn't there wasn't there
@@ -175,14 +179,14 @@ fails_before rows more kept l a h = decide (has_place_at l a rows) refl
 
 -- the list of a parent takes a child
 pub parent_place : (rows : List Nested) (parent : Option ℕ) → option_map_or
-    (apart (λ (n : Nest). n.children) (λ (c : NestCapacity). c.children) rows) parent true ≡ true
+    (apart (λ (n : Nesting). n.children) (λ (c : NestCapacity). c.children) rows) parent true ≡ true
     → option_map_or (λ b. has_place_at listed.Children b rows) parent true ≡ true
 parent_place rows None h = refl
 parent_place rows (Some b) h = sym (child_place rows b) ∙ h
 
 -- a list of depths and lists takes one more just where that of the rows does
-pub takes_nest : (rows : List Nested) (n : ℕ) → takes_one (nests_in rows) n ≡ takes_one rows n
-takes_nest rows n = ap (λ k. nat_lt k n) (length-map rows (λ (x : Nested). x.nest))
+pub takes_nest : (rows : List Nested) (n : ℕ) → takes_one (nestings_in rows) n ≡ takes_one rows n
+takes_nest rows n = ap (λ k. nat_lt k n) (length-map rows (λ (x : Nested). x.nesting))
 
 -- ---- an action that starts
 
@@ -191,34 +195,34 @@ map-more f [] r = refl
 map-more f (x ∷ rows) r = ap (λ ss. f x ∷ ss) (map-more f rows r)
 
 pub nests_started : (c depth : ℕ) (parent : Option ℕ) (rows : List Nested)
-    → nests_in (option_map_or (λ b. change_row (with_number listed.Children c) b rows) parent rows
-    ++ record { nest = new_nest depth; capacity = no_capacity } ∷ [])
-    ≡ option_map_or (λ b. change_row (with_child_number c) b (nests_in rows)) parent (nests_in rows)
-    ++ new_nest depth ∷ []
-nests_started c depth None rows = map-more (λ (x : Nested). x.nest) rows
-    (record { nest = new_nest depth; capacity = no_capacity })
+    → nestings_in (option_map_or (λ b. change_row (with_number listed.Children c) b rows) parent rows
+    ++ record { nesting = new_nesting depth; capacity = no_capacity } ∷ [])
+    ≡ option_map_or (λ b. change_row (with_child_number c) b (nestings_in rows)) parent (nestings_in rows)
+    ++ new_nesting depth ∷ []
+nests_started c depth None rows = map-more (λ (x : Nested). x.nesting) rows
+    (record { nesting = new_nesting depth; capacity = no_capacity })
 nests_started c depth (Some b) rows =
-    map-more (λ (x : Nested). x.nest) (change_row (with_number listed.Children c) b rows)
-    (record { nest = new_nest depth; capacity = no_capacity })
-    ∙ ap (λ (ns : List Nest). ns ++ new_nest depth ∷ []) (nests-with listed.Children c b rows)
+    map-more (λ (x : Nested). x.nesting) (change_row (with_number listed.Children c) b rows)
+    (record { nesting = new_nesting depth; capacity = no_capacity })
+    ∙ ap (λ (ns : List Nesting). ns ++ new_nesting depth ∷ []) (nestings-with listed.Children c b rows)
 
 pub capacities_started : (c depth : ℕ) (parent : Option ℕ) (rows : List Nested)
     → capacities_in (option_map_or (λ b. change_row (with_number listed.Children c) b rows) parent rows
-    ++ record { nest = new_nest depth; capacity = no_capacity } ∷ []) ≡ capacities_in rows ++ no_capacity ∷ []
+    ++ record { nesting = new_nesting depth; capacity = no_capacity } ∷ []) ≡ capacities_in rows ++ no_capacity ∷ []
 capacities_started c depth None rows = map-more (λ (x : Nested). x.capacity) rows
-    (record { nest = new_nest depth; capacity = no_capacity })
+    (record { nesting = new_nesting depth; capacity = no_capacity })
 capacities_started c depth (Some b) rows =
     map-more (λ (x : Nested). x.capacity) (change_row (with_number listed.Children c) b rows)
-    (record { nest = new_nest depth; capacity = no_capacity })
+    (record { nesting = new_nesting depth; capacity = no_capacity })
     ∙ ap (λ (cs : List NestCapacity). cs ++ no_capacity ∷ []) (capacities-with listed.Children c b rows)
 
 -- ---- a member that joins
 
-pub nests_joined : (p a t : ℕ) (rows : List Nested) → nests_in (change_row (with_number listed.Under p) t
+pub nests_joined : (p a t : ℕ) (rows : List Nested) → nestings_in (change_row (with_number listed.Under p) t
     (change_row (with_number listed.Members p) a rows)) ≡ change_row (with_number_under p) t
-    (change_row (with_member_number p) a (nests_in rows))
-nests_joined p a t rows = nests-with listed.Under p t (change_row (with_number listed.Members p) a rows)
-    ∙ ap (change_row (with_number_under p) t) (nests-with listed.Members p a rows)
+    (change_row (with_member_number p) a (nestings_in rows))
+nests_joined p a t rows = nestings-with listed.Under p t (change_row (with_number listed.Members p) a rows)
+    ∙ ap (change_row (with_number_under p) t) (nestings-with listed.Members p a rows)
 
 pub capacities_joined : (p a t : ℕ) (rows : List Nested) → capacities_in
     (change_row (with_number listed.Under p) t (change_row (with_number listed.Members p) a rows)) ≡ capacities_in rows
@@ -232,9 +236,10 @@ pub map-without_last : {R S : Type 0} (f : R → S) (rows : List R) → map f (w
 map-without_last f rows = sym (take-map f (length rows - 1) rows) ∙ ap (λ n. take (n - 1) (map f rows))
     (sym (length-map rows f))
 
-pub nests-without : (l : Listed) (a : ℕ) (rows : List Nested) → nests_in (change_row (without_number l) a rows)
-    ≡ change_row (nest_without l) a (nests_in rows)
-nests-without l a rows = map-change_row (λ (n : Nested). n.nest) (without_number l) (nest_without l) (λ n. refl) a rows
+pub nestings-without : (l : Listed) (a : ℕ) (rows : List Nested) → nestings_in (change_row (without_number l) a rows)
+    ≡ change_row (nest_without l) a (nestings_in rows)
+nestings-without l a rows = map-change_row (λ (n : Nested). n.nesting) (without_number l) (nest_without l) (λ n. refl) a
+    rows
 
 pub capacities-without : (l : Listed) (a : ℕ) (rows : List Nested) → capacities_in
     (change_row (without_number l) a rows) ≡ capacities_in rows
@@ -244,11 +249,12 @@ capacities-without l a rows = map-change_row (λ (n : Nested). n.capacity) (with
 -- ---- room for a deed
 
 -- the new rows have room for what the old had room for
-pub room_kept : (old new : Rowed) → new.sheet ≡ old.sheet → Keeps old new → (d : Deed) → deed_has_room d old ≡ true
+pub room_kept : (old new : Rowed) → new.snapshot ≡ old.snapshot → Keeps old new → (d : Deed) → deed_has_room d old
+    ≡ true
     → deed_has_room d new ≡ true
 room_kept old new same k (Start a parent limit) h =
     let x = both _ _ h in let y = both _ _ x.0 in
-    and_intro _ _ (and_intro _ _ (k.actions y.0) (k.nests y.1)) (of_parent parent x.1)
+    and_intro _ _ (and_intro _ _ (k.actions y.0) (k.nestings y.1)) (of_parent parent x.1)
   where
     of_parent : (o : Option ℕ) → option_map_or (takes_child old) o true ≡ true → option_map_or (takes_child new) o true
         ≡ true
@@ -256,7 +262,7 @@ room_kept old new same k (Start a parent limit) h =
     of_parent (Some b) h = k.children b h
 room_kept old new same k (Join p a uris) h =
     let x = both _ _ h in let y = both _ _ x.0 in let z = both _ _ y.0 in
-    and_intro _ _ (and_intro _ _ (and_intro _ _ (k.members z.0) (k.contacts z.1)) (k.numbers a y.1))
+    and_intro _ _ (and_intro _ _ (and_intro _ _ (k.members z.0) (k.endpoints z.1)) (k.numbers a y.1))
     (ap (λ s. takes_under new (top_at s.state a)) same ∙ k.under _ x.1)
 room_kept old new same k (Ask n p kind) h = let x = both _ _ h in and_intro _ _ (k.asks x.0) x.1
 room_kept old new same k (Reply n o) h = of_outcome (is_undecided o) h
@@ -267,16 +273,17 @@ room_kept old new same k (Reply n o) h = of_outcome (is_undecided o) h
     of_ask (Some x) g = k.ready x.member g
 
     of_outcome : (b : Bool) → cond b (option_map_or (λ (x : Asked). is_ready_at old.capacity.ready x.member)
-        (row_at old.sheet.asks n) true) true ≡ true
-        → cond b (option_map_or (λ (x : Asked). is_ready_at new.capacity.ready x.member) (row_at new.sheet.asks n) true)
+        (row_at old.snapshot.asks n) true) true ≡ true
+        → cond b (option_map_or (λ (x : Asked). is_ready_at new.capacity.ready x.member) (row_at new.snapshot.asks n)
+        true)
         true ≡ true
     of_outcome false g = refl
     of_outcome true g = ap (λ s. option_map_or (λ (x : Asked). is_ready_at new.capacity.ready x.member)
-        (row_at s.asks n) true) same ∙ of_ask (row_at old.sheet.asks n) g
+        (row_at s.asks n) true) same ∙ of_ask (row_at old.snapshot.asks n) g
 room_kept old new same k d h = refl
 
 -- so for an entry, where there are as many entries as before
-pub entry_kept : (old new : Rowed) → new.sheet ≡ old.sheet → Keeps old new → (e : Entry) → has_room e old ≡ true
+pub entry_kept : (old new : Rowed) → new.snapshot ≡ old.snapshot → Keeps old new → (e : Entry) → has_room e old ≡ true
     → has_room e new ≡ true
 entry_kept old new same k e h = let x = both _ _ h in
     and_intro _ _ (ap (λ s. nat_lt s.entries (2 ^ 63)) same ∙ x.0) (room_kept old new same k e.deed x.1)

@@ -5,3 +5,4 @@ pub mod Room
 pub mod Changes
 pub mod Counts
 pub mod Held
+pub mod Pieces

@@ -1,6 +1,6 @@
 //! The asks that were made, by their numbers.
 
-use crate::contact::Asked;
+use crate::endpoint::Asked;
 use crate::lists::{add, at, remove_last, reserve_one, takes_one};
 use lra_model::{AskKind, Direction, Memory};
 use std::alloc::Global;

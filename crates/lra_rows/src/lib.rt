@@ -5,20 +5,22 @@
 mod apply;
 mod asks;
 mod carry;
-mod contact;
-mod contacts;
+mod endpoint;
+mod endpoints;
 mod found;
 mod lists;
-mod nest;
+mod nesting;
+mod packed_addresses;
 mod room;
 mod rows;
 mod settles;
 mod step;
-mod take_back;
+mod undo;
 mod wants;
 
 pub use apply::copy_joined;
 pub use found::{ActionRow, AskRow, MemberRow};
 pub use lra_model::Memory;
+pub use packed_addresses::PackedAddresses;
 pub use rows::Rows;
 pub use step::Step;

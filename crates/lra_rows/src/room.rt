@@ -2,40 +2,41 @@
 
 ghost use Rattle.std.specs.Prelude.{◌≡◌, ◌^◌, true, false, ℕ, nat_lt, OnOk, OnErr, vec_capacity};
 ghost use Rattle.std.specs.Option.{option_map_or};
-ghost use Rattle.lra_rows.specs.inner.Nested.{nests_in, has_place_at};
-ghost use Rattle.lra_rows.specs.declared.nest.Listed.{Listed};
+ghost use Rattle.lra_rows.specs.inner.Nested.{nestings_in, has_place_at};
+ghost use Rattle.lra_rows.specs.declared.nesting.Listed.{Listed};
 
 use crate::asks::NARROW;
 use crate::carry::top_of;
-use crate::contact::is_undecided;
+use crate::endpoint::is_undecided;
 use crate::lists::{lent, place_of, reserve_one, takes_one};
-use crate::nest::{Listed, Nest};
+use crate::nesting::{Listed, Nesting};
 use crate::rows::Rows;
 use lra_model::{Deed, Entry, Memory, Outcome};
 
 /// Returns whether there is room for one more number in a list of an action, if the action is there.
-fn has_place_at(nests: &[Nest], list: Listed, action: u64) -> bool
-    ensures { result ≡ has_place_at list action nests.now }
+fn has_place_at(nestings: &[Nesting], list: Listed, action: u64) -> bool
+    ensures { result ≡ has_place_at list action nestings.now }
 {
-    match lent(nests, action) {
-        Some(nest) => nest.has_place(list),
+    match lent(nestings, action) {
+        Some(nesting) => nesting.has_place(list),
         None => true,
     }
 }
 
 /// Makes room for one more number in a list of an action, if the action is there.
-fn reserve_at(nests: &mut Vec<Nest>, list: Listed, action: u64) -> Result<(), Memory>
-    ensures same { nests_in nests.new.items ≡ nests_in nests.old.items }
-    ensures capacity { vec_capacity nests.new ≡ vec_capacity nests.old }
-    ensures ok { OnOk result (has_place_at list action nests.new.items ≡ true) }
-    ensures kept { (l : Listed) (a : ℕ) → has_place_at l a nests.old.items ≡ true → has_place_at l a nests.new.items
+fn reserve_at(nestings: &mut Vec<Nesting>, list: Listed, action: u64) -> Result<(), Memory>
+    ensures same { nestings_in nestings.new.items ≡ nestings_in nestings.old.items }
+    ensures capacity { vec_capacity nestings.new ≡ vec_capacity nestings.old }
+    ensures ok { OnOk result (has_place_at list action nestings.new.items ≡ true) }
+    ensures kept { (l : Listed) (a : ℕ) → has_place_at l a nestings.old.items ≡ true
+        → has_place_at l a nestings.new.items
         ≡ true }
 {
     let Some(place) = place_of(action) else {
         return Ok(());
     };
-    match nests.get_mut(place) {
-        Some(nest) => nest.reserve(list),
+    match nestings.get_mut(place) {
+        Some(nesting) => nesting.reserve(list),
         None => Ok(()),
     }
 }
@@ -53,19 +54,19 @@ impl Rows {
         ensures { (a limit : ℕ) → result ≡ deed_has_room (deeds.Start a parent limit) self.now }
     {
         let room_for_child = match parent {
-            Some(parent) => has_place_at(&self.nests, Listed::Children, parent),
+            Some(parent) => has_place_at(&self.nestings, Listed::Children, parent),
             None => true,
         };
-        takes_one(&self.actions) && takes_one(&self.nests) && room_for_child
+        takes_one(&self.actions) && takes_one(&self.nestings) && room_for_child
     }
 
     fn join_has_room(&self, action: u64) -> bool
         ensures { (p : ℕ) (uris : Addresses) → result ≡ deed_has_room (deeds.Join p action uris) self.now }
     {
         takes_one(&self.members)
-            && self.contacts.take_one()
-            && has_place_at(&self.nests, Listed::Members, action)
-            && has_place_at(&self.nests, Listed::Under, top_of(&self.actions, action))
+            && self.endpoints.take_one()
+            && has_place_at(&self.nestings, Listed::Members, action)
+            && has_place_at(&self.nestings, Listed::Under, top_of(&self.actions, action))
     }
 
     fn reply_has_room(&self, ask: u64, outcome: Outcome) -> bool
@@ -75,7 +76,7 @@ impl Rows {
             return true;
         }
         match self.asks.at(ask) {
-            Some(asked) => self.contacts.is_ready(asked.member),
+            Some(asked) => self.endpoints.is_ready(asked.member),
             None => true,
         }
     }
@@ -101,36 +102,36 @@ impl Rows {
     }
 
     fn reserve_start(&mut self, parent: Option<u64>) -> Result<(), Memory>
-        ensures sheet { self.new.sheet ≡ self.old.sheet }
+        ensures snapshot { self.new.snapshot ≡ self.old.snapshot }
         ensures ok { OnOk result ((a limit : ℕ) → deed_has_room (deeds.Start a parent limit) self.new ≡ true) }
         ensures kept { Keeps self.old self.new }
     {
         reserve_one(&mut self.actions)?;
-        reserve_one(&mut self.nests)?;
+        reserve_one(&mut self.nestings)?;
         match parent {
-            Some(parent) => reserve_at(&mut self.nests, Listed::Children, parent),
+            Some(parent) => reserve_at(&mut self.nestings, Listed::Children, parent),
             None => Ok(()),
         }
     }
 
     fn reserve_join(&mut self, action: u64) -> Result<(), Memory>
-        ensures sheet { self.new.sheet ≡ self.old.sheet }
+        ensures snapshot { self.new.snapshot ≡ self.old.snapshot }
         ensures ok { OnOk result ((p : ℕ) (uris : Addresses) → deed_has_room (deeds.Join p action uris) self.new
             ≡ true) }
         ensures kept { Keeps self.old self.new }
     {
         reserve_one(&mut self.members)?;
-        self.contacts.reserve_one()?;
-        reserve_at(&mut self.nests, Listed::Members, action)?;
+        self.endpoints.reserve_one()?;
+        reserve_at(&mut self.nestings, Listed::Members, action)?;
         reserve_at(
-            &mut self.nests,
+            &mut self.nestings,
             Listed::Under,
             top_of(&self.actions, action),
         )
     }
 
     fn reserve_ask(&mut self, member: u64) -> Result<(), Memory>
-        ensures sheet { self.new.sheet ≡ self.old.sheet }
+        ensures snapshot { self.new.snapshot ≡ self.old.snapshot }
         ensures ok { OnOk result ((n : ℕ) (kind : AskKind) → deed_has_room (deeds.Ask n member kind) self.new ≡ true) }
         ensures kept { Keeps self.old self.new }
     {
@@ -141,7 +142,7 @@ impl Rows {
     }
 
     fn reserve_reply(&mut self, ask: u64, outcome: Outcome) -> Result<(), Memory>
-        ensures sheet { self.new.sheet ≡ self.old.sheet }
+        ensures snapshot { self.new.snapshot ≡ self.old.snapshot }
         ensures ok { OnOk result (deed_has_room (deeds.Reply ask outcome) self.new ≡ true) }
         ensures kept { Keeps self.old self.new }
     {
@@ -149,13 +150,13 @@ impl Rows {
             return Ok(());
         }
         match self.asks.at(ask) {
-            Some(asked) => self.contacts.make_ready(self.alloc, asked.member),
+            Some(asked) => self.endpoints.make_ready(self.alloc, asked.member),
             None => Ok(()),
         }
     }
 
     fn reserve_deed(&mut self, deed: &Deed) -> Result<(), Memory>
-        ensures sheet { self.new.sheet ≡ self.old.sheet }
+        ensures snapshot { self.new.snapshot ≡ self.old.snapshot }
         ensures ok { OnOk result (deed_has_room deed.now self.new ≡ true) }
         ensures kept { Keeps self.old self.new }
     {
@@ -172,7 +173,7 @@ impl Rows {
     /// and where the entry could be, nothing changes. `Memory` where there is none for it, where there are 2^63
     /// entries, or where a member from 2^32 on is asked.
     pub fn reserve(&mut self, entry: &Entry) -> Result<(), Memory>
-        ensures sheet { self.new.sheet ≡ self.old.sheet }
+        ensures snapshot { self.new.snapshot ≡ self.old.snapshot }
         ensures ok { OnOk result (has_room entry.now self.new ≡ true) }
         ensures err { OnErr result (has_room entry.now self.old ≡ false) }
         ensures kept { (e : Entry) → has_room e self.old ≡ true → has_room e self.new ≡ true }

@@ -4,9 +4,9 @@ ghost use Rattle.std.specs.Prelude.{◌≡◌, ℕ, length, Some, None, []};
 ghost use Rattle.lra_laws.specs.Rows as laws;
 
 use crate::asks::Asks;
-use crate::contacts::Contacts;
+use crate::endpoints::Endpoints;
 use crate::lists::at;
-use crate::nest::Nest;
+use crate::nesting::Nesting;
 use lra_states::{ActionState, MemberState};
 use std::alloc::Global;
 use std::marker::Model;
@@ -26,20 +26,20 @@ pub struct Rows {
     pub(crate) void: u64,
     pub(crate) actions: Vec<ActionState>,
     pub(crate) members: Vec<MemberState>,
-    pub(crate) nests: Vec<Nest>,
-    pub(crate) contacts: Contacts,
+    pub(crate) nestings: Vec<Nesting>,
+    pub(crate) endpoints: Endpoints,
     pub(crate) asks: Asks,
 }
 
 impl Model for Rows {
     ghost use Rattle.std.specs.Prelude.{vec_capacity};
     ghost use Rattle.lra_rows.specs.Rowed.{Rowed};
-    ghost use Rattle.lra_rows.specs.inner.Nested.{nests_in, capacities_in};
+    ghost use Rattle.lra_rows.specs.inner.Nested.{nestings_in, capacities_in};
 
     ghost Value = { Rowed };
 
     ghost view = { λ r. record {
-      sheet = record {
+      snapshot = record {
         entries = r.entries;
         state = record {
           moment = r.moment;
@@ -49,29 +49,29 @@ impl Model for Rows {
           actions = r.actions.items;
           members = r.members.items;
         };
-        nests = nests_in r.nests.items;
-        contacts = r.contacts.items;
+        nestings = nestings_in r.nestings.items;
+        endpoints = r.endpoints.items;
         asks = r.asks.items;
       };
       capacity = record {
         actions = vec_capacity r.actions;
         members = vec_capacity r.members;
-        nests = vec_capacity r.nests;
-        contacts = r.contacts.capacity;
+        nestings = vec_capacity r.nestings;
+        endpoints = r.endpoints.capacity;
         asks = r.asks.capacity;
-        lists = capacities_in r.nests.items;
-        ready = r.contacts.ready;
+        lists = capacities_in r.nestings.items;
+        ready = r.endpoints.ready;
       };
     } };
 }
 
 impl Rows {
     ghost use Rattle.std.specs.Prelude.{◌≡◌, []};
-    ghost use Rattle.lra_laws.specs.Sheets as sheets;
+    ghost use Rattle.lra_laws.specs.Snapshots as snapshots;
 
     /// Returns the rows of no entries.
     pub fn empty(alloc: Global) -> Rows
-        ensures { sheets.StandsFor result.sheet [] }
+        ensures { snapshots.StandsFor result.snapshot [] }
     {
         Rows {
             alloc,
@@ -82,8 +82,8 @@ impl Rows {
             void: 0,
             actions: Vec::new(alloc),
             members: Vec::new(alloc),
-            nests: Vec::new(alloc),
-            contacts: Contacts::new(alloc),
+            nestings: Vec::new(alloc),
+            endpoints: Endpoints::new(alloc),
             asks: Asks::new(alloc),
         }
     }

@@ -11,12 +11,13 @@ impl Rows {
     ghost use Rattle.lra_model.specs.History.{History};
     ghost use Rattle.lra_model.specs.Settling.{may_be_skipped, by_parent};
     ghost use Rattle.lra_laws.specs.Settles.{may_skip_by, turn_by, end_by};
-    ghost use Rattle.lra_laws.specs.Sheets.{StandsFor};
+    ghost use Rattle.lra_laws.specs.Snapshots.{StandsFor};
     ghost use Rattle.lra_rows.specs.Found.{found_end};
     ghost use Rattle.lra_laws.specs.inner.RowFacts.{action_by, facts_by, member_by};
 
     fn may_skip(&self, row: &MemberState) -> bool
-        ensures { result ≡ tests.may_skip (facts_by self.now.sheet.state) (member_by self.now.sheet.state row.now) }
+        ensures { result ≡ tests.may_skip (facts_by self.now.snapshot.state)
+            (member_by self.now.snapshot.state row.now) }
     {
         self.is_closing(row.action)
             && row.status.is_untouched()
@@ -25,7 +26,7 @@ impl Rows {
     }
 
     fn held_skip(&self, member: u64) -> bool
-        ensures { result ≡ may_skip_by self.now.sheet.state member }
+        ensures { result ≡ may_skip_by self.now.snapshot.state member }
     {
         match at(&self.members, member) {
             Some(row) => self.may_skip(&row),
@@ -35,15 +36,15 @@ impl Rows {
 
     /// Returns whether a member may be completed without being asked.
     pub fn may_be_skipped(&self, member: u64) -> bool
-        ensures state { result ≡ may_skip_by self.now.sheet.state member }
-        ensures history { (J : History) → StandsFor self.now.sheet J → result ≡ may_be_skipped J member }
+        ensures state { result ≡ may_skip_by self.now.snapshot.state member }
+        ensures history { (J : History) → StandsFor self.now.snapshot J → result ≡ may_be_skipped J member }
     {
         self.held_skip(member)
     }
 
     fn may_close_with_parent(&self, row: &ActionState) -> bool
-        ensures { result ≡ tests.may_close_with_parent (facts_by self.now.sheet.state)
-            (action_by self.now.sheet.state row.now) }
+        ensures { result ≡ tests.may_close_with_parent (facts_by self.now.snapshot.state)
+            (action_by self.now.snapshot.state row.now) }
     {
         match row.parent {
             Some(parent) => row.status.is_active() && self.is_closing(parent),
@@ -52,8 +53,8 @@ impl Rows {
     }
 
     fn may_cancel_with_parent(&self, row: &ActionState) -> bool
-        ensures { result ≡ tests.may_cancel_with_parent (facts_by self.now.sheet.state)
-            (action_by self.now.sheet.state row.now) }
+        ensures { result ≡ tests.may_cancel_with_parent (facts_by self.now.snapshot.state)
+            (action_by self.now.snapshot.state row.now) }
     {
         match row.parent {
             Some(parent) => row.status.is_cancellable() && self.is_cancelling(parent),
@@ -62,7 +63,7 @@ impl Rows {
     }
 
     fn held_turn(&self, action: u64) -> Option<Deed>
-        ensures { result ≡ turn_by self.now.sheet.state action }
+        ensures { result ≡ turn_by self.now.snapshot.state action }
     {
         let row = at(&self.actions, action)?;
         if self.may_close_with_parent(&row) {
@@ -82,14 +83,14 @@ impl Rows {
 
     /// Returns what an action's parent does to it, where it does anything: it closes it, or cancels it.
     pub fn by_parent(&self, action: u64) -> Option<Deed>
-        ensures state { result ≡ turn_by self.now.sheet.state action }
-        ensures history { (J : History) → StandsFor self.now.sheet J → result ≡ by_parent J action }
+        ensures state { result ≡ turn_by self.now.snapshot.state action }
+        ensures history { (J : History) → StandsFor self.now.snapshot J → result ≡ by_parent J action }
     {
         self.held_turn(action)
     }
 
     fn held_end(&self, action: u64) -> Option<Deed>
-        ensures { result ≡ end_by self.now.sheet.state action }
+        ensures { result ≡ end_by self.now.snapshot.state action }
     {
         let row = at(&self.actions, action)?;
         if is_settled(&row) {
@@ -104,8 +105,8 @@ impl Rows {
 
     /// Returns the end of an action, where it may end.
     pub fn end(&self, action: u64) -> Option<Deed>
-        ensures state { result ≡ end_by self.now.sheet.state action }
-        ensures history { (J : History) → StandsFor self.now.sheet J → result ≡ found_end J action }
+        ensures state { result ≡ end_by self.now.snapshot.state action }
+        ensures history { (J : History) → StandsFor self.now.snapshot J → result ≡ found_end J action }
     {
         self.held_end(action)
     }

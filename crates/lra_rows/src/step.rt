@@ -1,6 +1,6 @@
 //! The writes of an entry: what it wrote over, and what it added.
 
-use crate::contact::Repeats;
+use crate::endpoint::Repeats;
 use lra_model::AskKind;
 use lra_states::{ActionState, MemberState};
 use std::marker::Model;

@@ -17,7 +17,7 @@ impl Rows {
     ghost use Rattle.lra_laws.specs.inner.RowFacts.{action_by, is_standing, facts_by, member_by};
 
     pub(crate) fn is_closing(&self, action: u64) -> bool
-        ensures { result ≡ tests.status_is words.is_closing (facts_by self.now.sheet.state) action }
+        ensures { result ≡ tests.status_is words.is_closing (facts_by self.now.snapshot.state) action }
     {
         match at(&self.actions, action) {
             Some(row) => row.status.is_closing(),
@@ -26,7 +26,7 @@ impl Rows {
     }
 
     pub(crate) fn is_cancelling(&self, action: u64) -> bool
-        ensures { result ≡ tests.status_is words.is_cancelling (facts_by self.now.sheet.state) action }
+        ensures { result ≡ tests.status_is words.is_cancelling (facts_by self.now.snapshot.state) action }
     {
         match at(&self.actions, action) {
             Some(row) => row.status.is_cancelling(),
@@ -35,7 +35,7 @@ impl Rows {
     }
 
     fn top_has_ended(&self, row: &ActionState) -> bool
-        ensures { result ≡ (action_by self.now.sheet.state row.now).top_has_ended }
+        ensures { result ≡ (action_by self.now.snapshot.state row.now).top_has_ended }
     {
         match at(&self.actions, row.top) {
             Some(top) => top.status.has_ended(),
@@ -44,8 +44,8 @@ impl Rows {
     }
 
     fn wants_completion(&self, row: &MemberState) -> Option<AskKind>
-        ensures { result ≡ wants.wants_completion (facts_by self.now.sheet.state)
-            (member_by self.now.sheet.state row.now) }
+        ensures { result ≡ wants.wants_completion (facts_by self.now.snapshot.state)
+            (member_by self.now.snapshot.state row.now) }
     {
         let is_time = self.is_closing(row.action)
             && (row.status.is_untouched() || row.status.is_completing());
@@ -60,8 +60,8 @@ impl Rows {
     }
 
     fn wants_compensation(&self, row: &MemberState) -> Option<AskKind>
-        ensures { result ≡ wants.wants_compensation (facts_by self.now.sheet.state)
-            (member_by self.now.sheet.state row.now) }
+        ensures { result ≡ wants.wants_compensation (facts_by self.now.snapshot.state)
+            (member_by self.now.snapshot.state row.now) }
     {
         let is_time = self.is_cancelling(row.action)
             && (row.status.is_untouched()
@@ -78,8 +78,8 @@ impl Rows {
     }
 
     fn is_time_to_forget(&self, row: &MemberState) -> bool
-        ensures { result ≡ tests.is_time_for ask.Forget (facts_by self.now.sheet.state)
-            (member_by self.now.sheet.state row.now) }
+        ensures { result ≡ tests.is_time_for ask.Forget (facts_by self.now.snapshot.state)
+            (member_by self.now.snapshot.state row.now) }
     {
         let Some(action) = at(&self.actions, row.action) else {
             return false;
@@ -90,8 +90,8 @@ impl Rows {
     }
 
     fn is_time_to_tell(&self, row: &MemberState) -> bool
-        ensures { result ≡ tests.is_time_for ask.After (facts_by self.now.sheet.state)
-            (member_by self.now.sheet.state row.now) }
+        ensures { result ≡ tests.is_time_for ask.After (facts_by self.now.snapshot.state)
+            (member_by self.now.snapshot.state row.now) }
     {
         let Some(action) = at(&self.actions, row.action) else {
             return false;
@@ -100,7 +100,7 @@ impl Rows {
     }
 
     fn is_asked(&self, row: &MemberState) -> bool
-        ensures { result ≡ is_standing self.now.sheet.state.void row.now }
+        ensures { result ≡ is_standing self.now.snapshot.state.void row.now }
     {
         match row.asked.get() {
             Some(asked) => self.void < asked.number,
@@ -110,7 +110,7 @@ impl Rows {
 
     /// Returns what the member of a row wants to be asked next.
     pub(crate) fn want(&self, row: &MemberState) -> Option<AskKind>
-        ensures { result ≡ wants.wanted (facts_by self.now.sheet.state) (member_by self.now.sheet.state row.now) }
+        ensures { result ≡ wants.wanted (facts_by self.now.snapshot.state) (member_by self.now.snapshot.state row.now) }
     {
         if self.is_asked(row) || row.status.has_gone() {
             return None;

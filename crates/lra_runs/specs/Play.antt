@@ -21,7 +21,7 @@ use Rattle.lra_commands.specs.Calls.{Call}
 use Rattle.lra_commands.specs.Answers.{answer, growth}
 use Rattle.lra_commands.specs.Counters.{terms_of}
 use Rattle.lra_runs.specs.declared.requests.RequestLine.{RequestLine}
-use Rattle.lra_audits.specs.Report.{joined, line_feed}
+use Rattle.lra_verdict_lines.specs.VerdictLines.{joined, line_feed}
 use Rattle.lra_runs.specs.Script.{player, Stage, first_stage, call_of, line_answer, given_by, after_line, after_lines}
 use Rattle.lra_runs.specs.Script.{Begins, BeginsWithNone}
 

@@ -2,7 +2,7 @@
 
 ghost use Rattle.std.specs.Prelude.{◌≡◌, ◌++◌, ◌∷◌, [], IfOk, Ok, Err, codes, string_bytes};
 ghost use Rattle.std.specs.Fmt.{decimal};
-ghost use Rattle.lra_audits.specs.Report.{joined, line_feed};
+ghost use Rattle.lra_verdict_lines.specs.VerdictLines.{joined, line_feed};
 ghost use Rattle.std.specs.Option.{option_copied, option_map_or};
 ghost use Rattle.lra_runs.specs.Play.{told_text, refusal_detail, answer_line, errand_line};
 ghost use Rattle.lra_runs.specs.inner.Details.{detail_text};

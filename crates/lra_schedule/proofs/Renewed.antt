@@ -18,7 +18,7 @@ use Rattle.lra_model.specs.declared.version.Version.TheVariants as version
 use Rattle.lra_model.specs.Words.{when, is_active}
 use Rattle.lra_model.specs.History.{History, actions, members, is_among}
 use Rattle.lra_model.specs.Rules.{is_legal}
-use Rattle.lra_laws.specs.Sheets.{Sheet, StandsFor}
+use Rattle.lra_laws.specs.Snapshots.{StateSnapshot, StandsFor}
 use Rattle.lra_laws.proofs.Push.{any_push}
 use Rattle.lra_laws.proofs.Legal.{actions_numbered, members_numbered, legal_empty}
 use Rattle.lra_rows.specs.declared.found.ActionRow.{ActionRow}
@@ -124,11 +124,12 @@ limit_told v t J l a = limit_found v t J l a ∙ one (found_action J a)
     one None = refl
     one (Some r) = refl
 
-pub refreshed : (l : Limits) (old now : Planned) (sheet : Sheet) (J K : History) (ps xs : List ℕ) → IsScheduleOf l old J
-    → StandsFor sheet K → CoversWants ps J K → CoversLimits xs J K
+pub refreshed : (l : Limits) (old now : Planned) (snapshot : StateSnapshot) (J K : History) (ps xs : List ℕ)
+    → IsScheduleOf l old J
+    → StandsFor snapshot K → CoversWants ps J K → CoversLimits xs J K
     → AreRenewed (retry_in l K) old.retries now.retries ps → AreRenewed (limit_in K) old.limits now.limits xs
     → IsScheduleOf l now K
-refreshed l old now sheet J K ps xs is stands wants limits new_retries new_limits = record {
+refreshed l old now snapshot J K ps xs is stands wants limits new_retries new_limits = record {
   version = stands.version;
   is_address = stands.is_address;
   legal = stands.legal;
@@ -184,10 +185,11 @@ empty_schedule l s retries limits = record {
 }
 
 -- all that are there have been given theirs
-pub filled : (l : Limits) (old now : Planned) (sheet : Sheet) (K : History) → IsScheduleOf l old [] → StandsFor sheet K
+pub filled : (l : Limits) (old now : Planned) (snapshot : StateSnapshot) (K : History) → IsScheduleOf l old []
+    → StandsFor snapshot K
     → AreRenewed (retry_in l K) old.retries now.retries (range_with_len 1 (length (members K)))
     → AreRenewed (limit_in K) old.limits now.limits (range_with_len 1 (length (actions K))) → IsScheduleOf l now K
-filled l old now sheet K is stands new_retries new_limits = record {
+filled l old now snapshot K is stands new_retries new_limits = record {
   version = stands.version;
   is_address = stands.is_address;
   legal = stands.legal;

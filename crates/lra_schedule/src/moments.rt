@@ -2,7 +2,7 @@
 
 ghost use Rattle.std.specs.Prelude.{◌≡◌, ◌+◌, ◌<◌, ◌^◌};
 ghost use Rattle.lra_model.specs.History.{History};
-ghost use Rattle.lra_laws.specs.Sheets.{StandsFor};
+ghost use Rattle.lra_laws.specs.Snapshots.{StandsFor};
 ghost use Rattle.lra_schedule.specs.inner.Renewals.{retry_by, limit_by, retry_in, limit_in};
 
 use lra_commands::Limits;
@@ -31,7 +31,7 @@ fn limit_by(row: &ActionRow) -> Option<u64>
 
 /// Returns when the want of the member of that number is due, if it is there and wants anything.
 pub(crate) fn retry_of(limits: &Limits, tables: &Tables, member: u64) -> Option<u64>
-    ensures { (J : History) → StandsFor tables.now.sheet J → result ≡ retry_in limits.now J member }
+    ensures { (J : History) → StandsFor tables.now.snapshot J → result ≡ retry_in limits.now J member }
 {
     let row = tables.member(member)?;
     retry_by(limits, &row)
@@ -39,7 +39,7 @@ pub(crate) fn retry_of(limits: &Limits, tables: &Tables, member: u64) -> Option<
 
 /// Returns when the limit of the action of that number passes, if it is there, Active and has one.
 pub(crate) fn limit_of(tables: &Tables, action: u64) -> Option<u64>
-    ensures { (J : History) → StandsFor tables.now.sheet J → result ≡ limit_in J action }
+    ensures { (J : History) → StandsFor tables.now.snapshot J → result ≡ limit_in J action }
 {
     let row = tables.action(action)?;
     limit_by(&row)

@@ -3,7 +3,7 @@
 ghost use Rattle.std.specs.Prelude.{◌≡◌, ◌+◌, ◌≤◌, ◌<◌, ◌||◌, ℕ, Bool, [], OnOk, IfOk, IsOk, is_some, length};
 ghost use Rattle.std.specs.List.{range_with_len};
 ghost use Rattle.lra_model.specs.History.{History};
-ghost use Rattle.lra_laws.specs.Sheets.{StandsFor};
+ghost use Rattle.lra_laws.specs.Snapshots.{StandsFor};
 ghost use Rattle.lra_tables.specs.Plans.{CoversWants, CoversLimits};
 ghost use Rattle.lra_commands.specs.declared.limits.Limits.{Limits as LimitsValue};
 ghost use Rattle.lra_commands.specs.Due.{due, late};
@@ -83,7 +83,7 @@ impl Schedule {
 
     /// Returns the first moment at which a want is due, if there is any.
     fn first_want(&self, limits: &Limits, tables: &Tables) -> Option<u64>
-        ensures { (J : History) → IsScheduleOf limits.now self.now J → StandsFor tables.now.sheet J
+        ensures { (J : History) → IsScheduleOf limits.now self.now J → StandsFor tables.now.snapshot J
             → IsFirst (λ n. is_some (due limits.now J n)) result }
     {
         match self.agenda.next_retry(u64::MAX) {
@@ -94,7 +94,7 @@ impl Schedule {
 
     /// Returns the first moment at which a limit has passed, if there is any.
     fn first_limit(&self, tables: &Tables) -> Option<u64>
-        ensures { (l : LimitsValue) (J : History) → IsScheduleOf l self.now J → StandsFor tables.now.sheet J
+        ensures { (l : LimitsValue) (J : History) → IsScheduleOf l self.now J → StandsFor tables.now.snapshot J
             → IsFirst (λ n. is_some (late J n)) result }
     {
         match self.agenda.first_due(u64::MAX) {
@@ -106,7 +106,7 @@ impl Schedule {
     /// Returns the first moment at which a want is due or a limit has passed, by the same limits as before. It may lie
     /// in the past. Where there is none, no want is ever due and no limit ever passes.
     pub fn next(&self, limits: &Limits, tables: &Tables) -> Option<u64>
-        ensures { (J : History) → IsScheduleOf limits.now self.now J → StandsFor tables.now.sheet J
+        ensures { (J : History) → IsScheduleOf limits.now self.now J → StandsFor tables.now.snapshot J
             → IsFirstMoment limits.now J result }
     {
         earlier(self.first_want(limits, tables), self.first_limit(tables))
@@ -138,7 +138,7 @@ impl Schedule {
 
     fn refresh_members(&mut self, limits: &Limits, tables: &Tables, members: &[u64])
         requires { length members.now ≤ self.old.room }
-        ensures retries { (K : History) → StandsFor tables.now.sheet K
+        ensures retries { (K : History) → StandsFor tables.now.snapshot K
             → AreRenewed (retry_in limits.now K) self.old.retries self.new.retries members.now }
         ensures limits { self.new.limits ≡ self.old.limits }
         ensures room { self.old.room ≤ self.new.room + length members.now }
@@ -150,7 +150,7 @@ impl Schedule {
 
     fn refresh_actions(&mut self, tables: &Tables, actions: &[u64])
         requires { length actions.now ≤ self.old.room }
-        ensures limits { (K : History) → StandsFor tables.now.sheet K → AreRenewed (limit_in K) self.old.limits
+        ensures limits { (K : History) → StandsFor tables.now.snapshot K → AreRenewed (limit_in K) self.old.limits
             self.new.limits actions.now }
         ensures retries { self.new.retries ≡ self.old.retries }
         ensures room { self.old.room ≤ self.new.room + length actions.now }
@@ -163,7 +163,7 @@ impl Schedule {
     /// Brings these members and actions up to date with the tables, by the same limits as before. This takes no memory.
     pub fn refresh(&mut self, limits: &Limits, tables: &Tables, members: &[u64], actions: &[u64])
         requires { length members.now + length actions.now ≤ self.old.room }
-        ensures schedule { (J K : History) → IsScheduleOf limits.now self.old J → StandsFor tables.now.sheet K
+        ensures schedule { (J K : History) → IsScheduleOf limits.now self.old J → StandsFor tables.now.snapshot K
             → CoversWants members.now J K → CoversLimits actions.now J K → IsScheduleOf limits.now self.new K }
         ensures room { self.old.room ≤ self.new.room + (length members.now + length actions.now) }
     {
@@ -172,7 +172,7 @@ impl Schedule {
     }
 
     fn fill_members(&mut self, limits: &Limits, tables: &Tables, count: u64) -> Result<(), Memory>
-        ensures retries { OnOk result ((K : History) → StandsFor tables.now.sheet K
+        ensures retries { OnOk result ((K : History) → StandsFor tables.now.snapshot K
             → AreRenewed (retry_in limits.now K) self.old.retries self.new.retries (range_with_len 1 count)) }
         ensures limits { self.new.limits ≡ self.old.limits }
     {
@@ -184,7 +184,7 @@ impl Schedule {
     }
 
     fn fill_actions(&mut self, tables: &Tables, count: u64) -> Result<(), Memory>
-        ensures limits { OnOk result ((K : History) → StandsFor tables.now.sheet K
+        ensures limits { OnOk result ((K : History) → StandsFor tables.now.snapshot K
             → AreRenewed (limit_in K) self.old.limits self.new.limits (range_with_len 1 count)) }
         ensures retries { self.new.retries ≡ self.old.retries }
     {
@@ -198,7 +198,7 @@ impl Schedule {
     /// Returns the schedule of the history that tables stand for, as for a coordinator that is opened again. Room for
     /// more moments has to be made with `room`.
     pub fn of(alloc: Global, limits: &Limits, tables: &Tables) -> Result<Schedule, Memory>
-        ensures { IfOk result (λ schedule. (K : History) → StandsFor tables.now.sheet K
+        ensures { IfOk result (λ schedule. (K : History) → StandsFor tables.now.snapshot K
             → IsScheduleOf limits.now schedule K) }
     {
         let mut schedule = Schedule::new(alloc);

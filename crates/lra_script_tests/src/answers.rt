@@ -1,6 +1,6 @@
 //! Answers of a coordinator, written as text.
 
-use lra_commands::Known;
+use lra_commands::QueryResult;
 use lra_core::{Refusal, Told};
 use std::io::Write;
 
@@ -21,7 +21,7 @@ pub fn put_next(next: Option<u64>, text: &mut Vec<u8>) -> Option<()> {
 }
 
 /// Writes the answer to a query, or its refusal.
-pub fn put_known(known: Result<Known, Refusal>, text: &mut Vec<u8>) -> Option<()> {
+pub fn put_known(known: Result<QueryResult, Refusal>, text: &mut Vec<u8>) -> Option<()> {
     match known {
         Ok(known) => writeln!(text, "{known:?}").ok(),
         Err(refusal) => writeln!(text, "refused {refusal:?}").ok(),

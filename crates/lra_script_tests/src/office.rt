@@ -17,7 +17,7 @@ use crate::words::{Words, asks, parted, uris};
 use lra_commands::{Order, Query};
 use lra_core::{Errand, Instance, Limits, Refusal, Told};
 use lra_model::{Outcome, suits};
-use lra_office::{Clerk, Desk, Office, OfficeOf, OfficeRefusal, ReopenFault, Serving};
+use lra_office::{Clerk, Desk, LockedService, Office, OfficeOf, OfficeRefusal, ReopenFault};
 use lra_ticket::Pass;
 use std::alloc::{AllocError, Global};
 use std::io::{self, Write};
@@ -53,7 +53,7 @@ impl<R: Wait> Write for Shared<'_, R> {
 
 /// Clerk that gives the commands of a script to its office.
 #[derive(Drop)]
-struct Player<'a, V: Serving, R> {
+struct Player<'a, V: LockedService, R> {
     rt: &'a R,
     alloc: Global,
     office: OfficeOf<V>,
@@ -66,7 +66,7 @@ struct Player<'a, V: Serving, R> {
     ghost there: { IsClerkOf office.lock V.covers clerk },
 }
 
-impl<V: Serving, R: Wait> Player<'_, V, R> {
+impl<V: LockedService, R: Wait> Player<'_, V, R> {
     /// Reserves room for the text of a script, so that writing it takes no memory.
     fn make_room(&mut self) -> Result<(), AllocError> {
         self.held.make_room()?;
@@ -261,7 +261,7 @@ fn put(answer: Result<Told, OfficeRefusal>, text: &mut Vec<u8>) -> Option<()> {
 }
 
 /// Gives an order by the method of its name.
-fn named<V: Serving, R: Wait>(
+fn named<V: LockedService, R: Wait>(
     rt: &R,
     office: &OfficeOf<V>,
     clerk: &mut Clerk<V>,
@@ -325,7 +325,7 @@ fn room(alloc: Global) -> Vec<u8> {
 }
 
 /// Enrols the first clerk of an office, twice if memory was refused.
-fn enrolled<V: Serving, R: Wait>(
+fn enrolled<V: LockedService, R: Wait>(
     rt: &R,
     office: &OfficeOf<V>,
     pass: Pass<V>,
@@ -343,7 +343,10 @@ fn enrolled<V: Serving, R: Wait>(
 }
 
 /// Plays a script by a clerk, and returns its office and the clerk.
-fn given<V: Serving, R: Wait>(mut player: Player<'_, V, R>, script: &str) -> (OfficeOf<V>, Clerk<V>)
+fn given<V: LockedService, R: Wait>(
+    mut player: Player<'_, V, R>,
+    script: &str,
+) -> (OfficeOf<V>, Clerk<V>)
     ensures { IsClerkOf result.0.lock V.covers result.1 }
 {
     let _ = player.play(script);

@@ -4,7 +4,7 @@ use crate::coordinator::{base, is_so, small};
 use crate::rows::OPENED;
 use crate::same::assert_same;
 use crate::words::parted;
-use lra_core::{Command, CoordinatorOf, Counted, Limits, Memory, OpenFault, Opening, Prepared};
+use lra_core::{Command, CoordinatorOf, LengthOnly, Limits, Memory, OpenFault, Opening, Prepared};
 use lra_ids::Base;
 use std::alloc::Global;
 
@@ -41,7 +41,7 @@ fn open_once(
     journal: &str,
     entries: u32,
     size: usize,
-) -> Result<CoordinatorOf<Counted>, OpenFault> {
+) -> Result<CoordinatorOf<LengthOnly>, OpenFault> {
     let Some(base) = base(alloc) else {
         return Err(OpenFault::Memory);
     };
@@ -59,7 +59,7 @@ fn open(
     journal: &str,
     entries: u32,
     size: usize,
-) -> Result<CoordinatorOf<Counted>, OpenFault> {
+) -> Result<CoordinatorOf<LengthOnly>, OpenFault> {
     match open_once(alloc, journal, entries, size) {
         Err(OpenFault::Memory) => open_once(alloc, journal, entries, size),
         opened => opened,
@@ -94,7 +94,7 @@ fn journals_are_opened_in_pieces(rt: HostRuntime) {
 }
 
 /// Returns the text that an enrolment would append. It is empty if the enrolment is refused.
-fn enrolment(alloc: Global, coordinator: &mut CoordinatorOf<Counted>) -> Vec<u8> {
+fn enrolment(alloc: Global, coordinator: &mut CoordinatorOf<LengthOnly>) -> Vec<u8> {
     let mut text = Vec::new(alloc);
     for _again in 0..2 {
         if let Ok(Prepared::Block(block)) = coordinator.prepare(0, 9, &Command::Enrol)

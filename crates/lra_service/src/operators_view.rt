@@ -2,10 +2,10 @@
 
 use crate::service_state::ServiceState;
 use lra_clocks::{Clock as SteadyClock, SystemClock};
-use lra_commands::{Counter, CounterFault, Known, Order, Query, Refusal, Told};
+use lra_commands::{Counter, CounterFault, Order, Query, QueryResult, Refusal, Told};
 use lra_ids::{Base, Instance};
 use lra_model::Memory;
-use lra_office::{OfficeRefusal, Serving, WhichLock, Window};
+use lra_office::{LockedService, OfficeRefusal, WhichLock, Window};
 use lra_operators_server::{Given, operators_order};
 use lra_outcomes::Attempt;
 use lra_overview::{Facts, Overview};
@@ -14,7 +14,7 @@ use std::sync::Wait;
 use std::time::Clock;
 
 /// Operators' view: a window of the office, and what is known beside its history.
-pub(crate) struct OperatorsView<'w, 's, 'a, V: Serving, R, L: WhichLock, H> {
+pub(crate) struct OperatorsView<'w, 's, 'a, V: LockedService, R, L: WhichLock, H> {
     window: Window<'w, V, R, L>,
     service_state: &'s ServiceState<'a, R, H>,
     clock: SystemClock<'a, R>,
@@ -29,7 +29,7 @@ fn fault_of(refusal: OfficeRefusal) -> CounterFault {
     }
 }
 
-impl<'w, 's, 'a, V: Serving, R, L: WhichLock, H> OperatorsView<'w, 's, 'a, V, R, L, H> {
+impl<'w, 's, 'a, V: LockedService, R, L: WhichLock, H> OperatorsView<'w, 's, 'a, V, R, L, H> {
     /// Returns a view that has given no order.
     pub(crate) fn new(
         window: Window<'w, V, R, L>,
@@ -58,7 +58,7 @@ impl<'w, 's, 'a, V: Serving, R, L: WhichLock, H> OperatorsView<'w, 's, 'a, V, R,
     }
 }
 
-impl<V: Serving, R: Wait + Clock, L: WhichLock, H> Overview
+impl<V: LockedService, R: Wait + Clock, L: WhichLock, H> Overview
     for OperatorsView<'_, '_, '_, V, R, L, H> {
     ghost orders = { λ w. w.given.log.items };
 
@@ -85,7 +85,7 @@ impl<V: Serving, R: Wait + Clock, L: WhichLock, H> Overview
         self.service_state.measure.tallies.put(page)
     }
 
-    fn query(&mut self, _instance: Instance, query: Query) -> Result<Known, CounterFault> {
+    fn query(&mut self, _instance: Instance, query: Query) -> Result<QueryResult, CounterFault> {
         match self.window.query(query) {
             Ok(known) => Ok(known),
             Err(refusal) => Err(fault_of(refusal)),

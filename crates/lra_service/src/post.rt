@@ -4,7 +4,7 @@ ghost use Rattle.std.specs.Prelude.{All, IfOk, IfErr, OnOk};
 ghost use Rattle.lra_opening.specs.Faults.{IsOfNoScript};
 ghost use Rattle.lra_service.specs.inner.Opened.{IsAt};
 
-use lra_office::{Clerk, OfficeOf, Serving};
+use lra_office::{Clerk, LockedService, OfficeOf};
 use lra_opening::{ServeFault, enrol_fault};
 use std::alloc::Global;
 use std::sync::Wait;
@@ -21,7 +21,7 @@ pub(crate) enum Role {
 }
 
 /// Gives a clerk its role, and enrols another beside it. Returns the other.
-fn register_worker<V: Serving, R: Wait>(
+fn register_worker<V: LockedService, R: Wait>(
     rt: &R,
     office: &OfficeOf<V>,
     clerk: Clerk<V>,
@@ -47,7 +47,7 @@ fn register_worker<V: Serving, R: Wait>(
 }
 
 /// Adds the clerks of a service, of which one is there already.
-fn add_all<V: Serving, R: Wait>(
+fn add_all<V: LockedService, R: Wait>(
     rt: &R,
     office: &OfficeOf<V>,
     first: Clerk<V>,
@@ -71,7 +71,7 @@ fn add_all<V: Serving, R: Wait>(
 }
 
 /// Adds the clerks of a service, and one for the operators' thread if there is one.
-fn add_each<V: Serving, R: Wait>(
+fn add_each<V: LockedService, R: Wait>(
     rt: &R,
     office: &OfficeOf<V>,
     first: Clerk<V>,
@@ -94,7 +94,7 @@ fn add_each<V: Serving, R: Wait>(
 
 /// Returns the clerks of a service with their roles, of which one is there already: one for each of so many connection
 /// workers and as many callback workers, and one for the operators' thread if there is one.
-pub(crate) fn spawn_all<V: Serving, R: Wait>(
+pub(crate) fn spawn_all<V: LockedService, R: Wait>(
     rt: &R,
     alloc: Global,
     office: &OfficeOf<V>,

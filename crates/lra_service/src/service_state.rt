@@ -12,18 +12,18 @@ use crate::latch::Latch;
 use crate::measure::{Now, ServiceStatistics};
 use crate::notifier::{OperatorsRefusalLogger, lose_callback_worker, lose_worker};
 use crate::operators_view::OperatorsView;
-use crate::polls::{Polls, WorkerSlot};
+use crate::polls::Polls;
 use crate::post::Role;
 use crate::running::FileEnd;
 use crate::shares::{CallbackSettings, times_of};
 use lra_admission::KeyFiles;
-use lra_callbacks::{Callbacks, wake_workers};
+use lra_callbacks::{Callbacks, WorkerSlot, wake_workers};
 use lra_clocks::SystemClock;
 use lra_durable::{Journals, Progress, SyncGroup};
 use lra_event_loop::{AcceptQueue, EventLoop, EventLoopEnd, Times};
 use lra_ids::Instance;
 use lra_logs::{Event, EventSink, FileTail};
-use lra_office::{Clerk, OfficeOf, Serving, WhichLock, Window};
+use lra_office::{Clerk, LockedService, OfficeOf, WhichLock, Window};
 use lra_opening::{Notifier, ServeFault};
 use lra_operators_server::{
     CountingCallbackPool, OperatorsServer, ProcessStatistics, serve_operators,
@@ -264,7 +264,7 @@ impl<R: Wait + Clock, H> ServiceState<'_, R, H> {
 
 impl<R: Wait + Clock, H: EventSink> ServiceState<'_, R, H> {
     /// Answers operators, at an office whose lock the type names.
-    fn watch_at<V: Serving, Q: WhichLock>(
+    fn watch_at<V: LockedService, Q: WhichLock>(
         &self,
         post: &OperatorsServer,
         office: &OfficeOf<V>,
@@ -291,7 +291,7 @@ impl<R: Wait + Clock, H: EventSink> ServiceState<'_, R, H> {
     }
 
     /// Answers operators if there is a server for them.
-    fn watch<V: Serving>(&self, office: &OfficeOf<V>, clerk: Clerk<V>)
+    fn watch<V: LockedService>(&self, office: &OfficeOf<V>, clerk: Clerk<V>)
         requires { IsAt V.setting V.covers office.now clerk }
     {
         match self.operators_server {
@@ -438,7 +438,7 @@ impl<R: Wait + Clock + Net, H: Notifier + EventSink> ServiceState<'_, R, H> {
     }
 
     /// Lets limits fire and makes the callbacks of errands, many at once, in a slot whose poll was taken.
-    fn carry_at<V: Serving>(
+    fn carry_at<V: LockedService>(
         &self,
         worker_slot: &WorkerSlot,
         place: u32,
@@ -471,7 +471,7 @@ impl<R: Wait + Clock + Net, H: Notifier + EventSink> ServiceState<'_, R, H> {
 
     /// Lets limits fire and makes the callbacks of errands, many at once, in a slot. If the slot has no poll, ends the
     /// connection workers.
-    fn carry<V: Serving>(&self, place: u32, office: &OfficeOf<V>, clerk: Clerk<V>)
+    fn carry<V: LockedService>(&self, place: u32, office: &OfficeOf<V>, clerk: Clerk<V>)
         requires { IsAt V.setting V.covers office.now clerk }
     {
         match self.take_poll(place) {
@@ -489,7 +489,7 @@ impl<
     H: Notifier + EventSink,
 > ServiceState<'_, R, H> {
     /// Answers the connections of an accept queue, at an office whose lock the type names.
-    fn answer_at<V: Serving, Q: WhichLock>(
+    fn answer_at<V: LockedService, Q: WhichLock>(
         &self,
         accept_queue: &AcceptQueue,
         office: &OfficeOf<V>,
@@ -535,7 +535,7 @@ impl<
     }
 
     /// Answers the connections of the accept queue at an index.
-    fn answer<V: Serving>(&self, place: u32, office: &OfficeOf<V>, clerk: Clerk<V>)
+    fn answer<V: LockedService>(&self, place: u32, office: &OfficeOf<V>, clerk: Clerk<V>)
         requires { IsAt V.setting V.covers office.now clerk }
     {
         match self.dispatcher.accept_queue(place) {
@@ -550,7 +550,7 @@ impl<
 
     /// Waits until all threads have started, and does the work of a clerk's role. With the last clerk's end, ends the
     /// resolvers and the acceptor.
-    pub(crate) fn stand<V: Serving>(&self, office: &OfficeOf<V>, role: Role, clerk: Clerk<V>)
+    pub(crate) fn stand<V: LockedService>(&self, office: &OfficeOf<V>, role: Role, clerk: Clerk<V>)
         requires { IsAt V.setting V.covers office.now clerk }
     {
         if !self.latch.pass(self.rt) {
@@ -563,7 +563,7 @@ impl<
         }
     }
 
-    fn work<V: Serving>(&self, office: &OfficeOf<V>, role: Role, clerk: Clerk<V>)
+    fn work<V: LockedService>(&self, office: &OfficeOf<V>, role: Role, clerk: Clerk<V>)
         requires { IsAt V.setting V.covers office.now clerk }
     {
         match role {

@@ -11,7 +11,7 @@ use crate::post::Role;
 use crate::service_state::ServiceState;
 use lra_admission::KeyFiles;
 use lra_logs::EventSink;
-use lra_office::{Clerk, OfficeOf, Serving};
+use lra_office::{Clerk, LockedService, OfficeOf};
 use lra_opening::{Notifier, ServeFault};
 use std::io::Write;
 use std::marker::{Send, Sync};
@@ -25,7 +25,7 @@ use std::time::Clock;
 /// writes that the service serves, and accepts connections until no connection worker answers any more. If a thread
 /// can't be started, writes nothing, and ends the started threads at once.
 pub(crate) fn work<
-    V: Serving + Send,
+    V: LockedService + Send,
     R: KeyFiles + Threads + Wait + Clock + Net<Stream = TcpStream, Listener = TcpListener> + Sync,
     H: Notifier + EventSink + Sync,
     W: Write,

@@ -13,11 +13,11 @@ ghost use Rattle.lra_workers.specs.Work.{post, TellsWhy};
 ghost use Rattle.lra_workers.specs.CallbackExchange.{EndsCallbackWorker};
 ghost use Rattle.lra_workers.specs.Handed.{AreHanded};
 
-use lra_commands::{Counter, CounterFault, Known, Order, Query, Refusal, Session, Told};
+use lra_commands::{Counter, CounterFault, Order, Query, QueryResult, Refusal, Session, Told};
 use lra_courier::CallbackPool;
 use lra_front::Clock;
 use lra_ids::{Base, Instance};
-use lra_office::{Clerk, OfficeOf, OfficeRefusal, Serving};
+use lra_office::{Clerk, LockedService, OfficeOf, OfficeRefusal};
 use lra_workers::{Gate, WorkerEnd, run_callback_worker};
 use std::sync::{Arc, Wait};
 
@@ -25,7 +25,7 @@ use std::sync::{Arc, Wait};
 /// of a thread's own. A thread may have several sessions, of different offices. An office ends with the last of its
 /// sessions.
 #[derive(Drop)]
-pub struct OwnedSession<V: Serving, R> {
+pub struct OwnedSession<V: LockedService, R> {
     rt: R,
     office: Arc<OfficeOf<V>>,
     clerk: Clerk<V>,
@@ -33,7 +33,7 @@ pub struct OwnedSession<V: Serving, R> {
     ghost made: { IsOfficeOf (V.setting (clerk_view clerk).origin) (arc_value office) },
 }
 
-impl<V: Serving, R> OwnedSession<V, R> {
+impl<V: LockedService, R> OwnedSession<V, R> {
     /// Makes a session of an office, for a clerk of it.
     pub fn new(rt: R, office: Arc<OfficeOf<V>>, clerk: Clerk<V>) -> OwnedSession<V, R>
         requires there { IsClerkOf (arc_value office).lock V.covers clerk }
@@ -45,7 +45,7 @@ impl<V: Serving, R> OwnedSession<V, R> {
     }
 }
 
-impl<V: Serving, R: Wait + Clone + Drop> OwnedSession<V, R> {
+impl<V: LockedService, R: Wait + Clone + Drop> OwnedSession<V, R> {
     /// Enrols another clerk beside this session's clerk, and returns another session of the office for it. Whether this
     /// succeeds or not, this session's clerk stays as it is.
     pub fn fork(&mut self, moment: u64) -> Result<OwnedSession<V, R>, OfficeRefusal>
@@ -73,7 +73,7 @@ impl<V: Serving, R: Wait + Clone + Drop> OwnedSession<V, R> {
     }
 
     /// Returns to its clerk what the query asks for, as `OfficeOf::query` does.
-    pub fn query(&mut self, query: Query) -> Result<Known, OfficeRefusal>
+    pub fn query(&mut self, query: Query) -> Result<QueryResult, OfficeRefusal>
         ensures number { self.new.clerk.number ≡ self.old.clerk.number }
         ensures known { IsQueried (V.setting (clerk_view self.old.clerk).origin) (clerk_view self.old.clerk) query
             result (clerk_view self.new.clerk) }
@@ -130,7 +130,7 @@ impl<V: Serving, R: Wait + Clone + Drop> OwnedSession<V, R> {
     }
 }
 
-impl<V: Serving, R: Wait> Counter for OwnedSession<V, R> {
+impl<V: LockedService, R: Wait> Counter for OwnedSession<V, R> {
     ghost use Rattle.lra_office.specs.Clerks.{sight_of};
     ghost use Rattle.lra_office.specs.Stops.{KeepsInTurn};
 
@@ -154,7 +154,7 @@ impl<V: Serving, R: Wait> Counter for OwnedSession<V, R> {
     }
 }
 
-impl<V: Serving, R: Wait> Session for OwnedSession<V, R> {
+impl<V: LockedService, R: Wait> Session for OwnedSession<V, R> {
     ghost use Rattle.lra_office.specs.Clerks.{clerk_view};
 
     ghost covers = { λ b n. V.covers (clerk_view b.clerk).origin (clerk_view b.clerk).seen n };
@@ -170,7 +170,7 @@ pub trait JournalSession: Session {
     fn fork(&mut self, moment: u64) -> Option<Self>;
 
     /// Returns what the query asks for of the office's history, if the office reports it.
-    fn query(&mut self, query: Query) -> Option<Known>;
+    fn query(&mut self, query: Query) -> Option<QueryResult>;
 
     /// Ends its office, if that has no other clerk: no order reaches the office any more. Otherwise returns the clerk.
     fn close(self) -> Result<(), Self>;
@@ -186,7 +186,7 @@ pub trait JournalSession: Session {
         requires none { AreFree (C.held callback_pool.old) };
 }
 
-impl<V: Serving + Drop, R: Wait + Clone + Drop> JournalSession for OwnedSession<V, R> {
+impl<V: LockedService + Drop, R: Wait + Clone + Drop> JournalSession for OwnedSession<V, R> {
     fn fork(&mut self, moment: u64) -> Option<Self> {
         match OwnedSession::fork(self, moment) {
             Ok(other) => Some(other),
@@ -194,7 +194,7 @@ impl<V: Serving + Drop, R: Wait + Clone + Drop> JournalSession for OwnedSession<
         }
     }
 
-    fn query(&mut self, query: Query) -> Option<Known> {
+    fn query(&mut self, query: Query) -> Option<QueryResult> {
         match OwnedSession::query(self, query) {
             Ok(known) => Some(known),
             Err(_) => None,

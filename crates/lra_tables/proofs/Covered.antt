@@ -14,7 +14,7 @@ use Rattle.lra_model.specs.Actions.{Limit, action_status, limit_in_force}
 use Rattle.lra_model.specs.Members.{ask_direction}
 use Rattle.lra_model.specs.Wants.{wants, stage_of, repeat_count, last_repeat}
 use Rattle.lra_model.specs.Settling.{with_settling}
-use Rattle.lra_laws.specs.Sheets.{Sheet, StandsFor, Follows}
+use Rattle.lra_laws.specs.Snapshots.{StateSnapshot, StandsFor, Follows}
 use Rattle.lra_laws.specs.Changes.{members_changed_by, actions_changed_by}
 use Rattle.lra_laws.proofs.Changes.{SameWants, SameLimit}
 use Rattle.lra_laws.proofs.ChangesBlock.{block_wants, block_limits}
@@ -84,7 +84,8 @@ same_limiting J K a x =
 -- ---- blocks
 
 -- a list that has them all
-pub covers_wants : (s : Sheet) (e : Entry) (J : History) (es : List Entry) (ps : List ℕ) → Follows s e → StandsFor s J
+pub covers_wants : (s : StateSnapshot) (e : Entry) (J : History) (es : List Entry) (ps : List ℕ) → Follows s e
+    → StandsFor s J
     → es ≡ with_settling J e → ps ≡ members_changed_by J es → CoversWants ps J (J ++ es)
 covers_wants s e J es ps f h block listed p out =
     let x = follows_each s e J f h in

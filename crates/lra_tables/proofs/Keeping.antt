@@ -8,40 +8,40 @@ use Rattle.lra_model.specs.declared.entry.Entry.{Entry}
 use Rattle.lra_model.specs.Addresses.{Addresses}
 use Rattle.lra_model.specs.History.{History, members, is_among}
 use Rattle.lra_model.specs.Members.{action_of, addresses_of}
-use Rattle.lra_laws.specs.Sheets.{Sheet, StandsFor}
+use Rattle.lra_laws.specs.Snapshots.{StateSnapshot, StandsFor}
 use Rattle.lra_laws.proofs.Legal.{Allowed, allowed}
 use Rattle.lra_laws.proofs.Named.{member_there_push}
 use Rattle.lra_laws.proofs.MemberWords.{action_kept, addresses_kept}
-use Rattle.lra_laws.proofs.SheetPush.{StandsFor-push}
+use Rattle.lra_laws.proofs.SnapshotPush.{StandsFor-push}
 use Rattle.lra_laws.proofs.Told.{entry, told}
-use Rattle.lra_joined.specs.Digests.{digest_of}
-use Rattle.lra_joined.specs.Listed.{Indexed, IsListed, IsCounted, without}
+use Rattle.lra_tables.specs.inner.Digests.{digest_of}
+use Rattle.lra_tables.specs.inner.Listed.{Indexed, IsListed, IsCounted, without}
 use Rattle.lra_rows.specs.declared.found.MemberRow.{MemberRow}
 use Rattle.lra_rows.specs.Found.{found_member, found_addresses}
 use Rattle.lra_tables.specs.inner.Kept.{staying_with, IsKept, IsKeptBefore}
 use Rattle.lra_tables.proofs.Staying.{staying_few, one_staying, staying_still, staying_joined, staying_left}
 
 -- the history with the entry
-abbrev pub now : (i : Indexed) (e : Entry) (s : Sheet) → IsKeptBefore i e s → History
+abbrev pub now : (i : Indexed) (e : Entry) (s : StateSnapshot) → IsKeptBefore i e s → History
 now i e s b = b.follows.history ++ e ∷ []
 
-pub stands_now : (i : Indexed) (e : Entry) (s : Sheet) (b : IsKeptBefore i e s) → StandsFor s (now i e s b)
-stands_now i e s b = subst (λ (x : Sheet). StandsFor x (now i e s b)) (sym b.after)
+pub stands_now : (i : Indexed) (e : Entry) (s : StateSnapshot) (b : IsKeptBefore i e s) → StandsFor s (now i e s b)
+stands_now i e s b = subst (λ (x : StateSnapshot). StandsFor x (now i e s b)) (sym b.after)
     (StandsFor-push b.before b.follows.history e b.follows.stands b.follows.allowed)
 
-may_follow : (i : Indexed) (e : Entry) (s : Sheet) (b : IsKeptBefore i e s)
+may_follow : (i : Indexed) (e : Entry) (s : StateSnapshot) (b : IsKeptBefore i e s)
     → Allowed b.follows.stands.version b.follows.stands.is_address b.follows.history e
 may_follow i e s b = allowed b.follows.stands.version b.follows.stands.is_address b.follows.history e b.follows.allowed
 
 -- what is under a digest can be counted
-pub counted : (i : Indexed) (e : Entry) (s : Sheet) → IsKeptBefore i e s → (digest : ℕ) → IsCounted i digest
+pub counted : (i : Indexed) (e : Entry) (s : StateSnapshot) → IsKeptBefore i e s → (digest : ℕ) → IsCounted i digest
 counted i e s b digest =
     let J : History = b.follows.history in
     let h : StandsFor b.before J = b.follows.stands in
     (staying_with i.key digest J, b.kept J h digest, staying_few h.version h.is_address J h.legal i.key digest)
 
 -- kept of one history, it is kept of each
-keeping : (i new : Indexed) (e : Entry) (s : Sheet) (b : IsKeptBefore i e s) → new.key ≡ i.key
+keeping : (i new : Indexed) (e : Entry) (s : StateSnapshot) (b : IsKeptBefore i e s) → new.key ≡ i.key
     → ((digest : ℕ) → IsListed new digest (staying_with i.key digest (now i e s b))) → IsKept new s
 keeping i new e s b same listed J h digest =
     subst (IsListed new digest)
@@ -50,7 +50,7 @@ keeping i new e s b same listed J h digest =
     (listed digest)
 
 -- a member joins
-pub kept_joined : (i new : Indexed) (e : Entry) (s : Sheet) (b : IsKeptBefore i e s) (p a : ℕ) (u : Addresses)
+pub kept_joined : (i new : Indexed) (e : Entry) (s : StateSnapshot) (b : IsKeptBefore i e s) (p a : ℕ) (u : Addresses)
     (digest : ℕ) → e.deed ≡ Join p a u → digest ≡ digest_of i.key a u → new.key ≡ i.key
     → ((other : ℕ) (ns : List ℕ) → IsListed i other ns → IsListed new other (cond (digest == other) (ns ++ p ∷ []) ns))
     → IsKept new s
@@ -70,7 +70,8 @@ kept_joined i new e s b p a u digest is at same listed = keeping i new e s b sam
     h = b.follows.stands
 
 -- a member leaves
-pub kept_left : (i new : Indexed) (e : Entry) (s : Sheet) (b : IsKeptBefore i e s) (p digest : ℕ) → e.deed ≡ Leave p
+pub kept_left : (i new : Indexed) (e : Entry) (s : StateSnapshot) (b : IsKeptBefore i e s) (p digest : ℕ) → e.deed
+    ≡ Leave p
     → digest ≡ digest_of i.key (action_of (now i e s b) p) (addresses_of (now i e s b) p) → new.key ≡ i.key
     → ((other : ℕ) (ns : List ℕ) → IsListed i other ns → IsListed new other (cond (digest == other) (without p ns) ns))
     → IsKept new s
@@ -100,7 +101,7 @@ kept_left i new e s b p digest is at same listed = keeping i new e s b same (λ 
         (addresses_kept J e.by e.moment (Leave p) p refl k))
 
 -- a member that leaves is there
-pub leaves_there : (i : Indexed) (e : Entry) (s : Sheet) (b : IsKeptBefore i e s) (p : ℕ) → e.deed ≡ Leave p
+pub leaves_there : (i : Indexed) (e : Entry) (s : StateSnapshot) (b : IsKeptBefore i e s) (p : ℕ) → e.deed ≡ Leave p
     → is_among (members (now i e s b)) p ≡ true
 leaves_there i e s b p is =
     let J : History = b.follows.history in
@@ -109,7 +110,7 @@ leaves_there i e s b p is =
     (subst (λ (d : Deed). Allowed h.version h.is_address J (entry e.by e.moment d)) is (may_follow i e s b)))
 
 -- no member joins or leaves
-pub kept_same : (i : Indexed) (e : Entry) (s : Sheet) (b : IsKeptBefore i e s)
+pub kept_same : (i : Indexed) (e : Entry) (s : StateSnapshot) (b : IsKeptBefore i e s)
     → ((p a : ℕ) (u : Addresses) → e.deed ≡ Join p a u → ⊥) → ((p : ℕ) → e.deed ≡ Leave p → ⊥) → IsKept i s
 kept_same i e s b no_join no_leave = keeping i i e s b refl (λ other. subst (IsListed i other)
     (sym (still e.deed no_join no_leave other)) (b.kept J h other))

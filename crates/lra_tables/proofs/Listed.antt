@@ -8,7 +8,7 @@ use Rattle.std.proofs.lemmas.List.Elements.{filter_map-append}
 use Rattle.lra_model.specs.History.{History, actions, asks, is_among}
 use Rattle.lra_model.specs.Actions.{parent}
 use Rattle.lra_laws.specs.Rows.{void_asks}
-use Rattle.lra_laws.specs.Sheets.{Sheet, StandsFor}
+use Rattle.lra_laws.specs.Snapshots.{StateSnapshot, StandsFor}
 use Rattle.lra_laws.specs.Changes.{member_awaited, members_awaited}
 use Rattle.lra_laws.proofs.AskWords.{asks_stand}
 use Rattle.lra_laws.proofs.Changes.{void_unasked}
@@ -38,7 +38,7 @@ nothing_given f a (suc n) none =
     ∙ nothing_given f (a + 1) n (λ k below. none k (omega arith))
 
 -- no answer to a void ask is awaited
-pub none_awaited : (s : Sheet) (J : History) (n : ℕ) (ns : List ℕ) → StandsFor s J → n ≡ void_asks J → ns ≡ ns
+pub none_awaited : (s : StateSnapshot) (J : History) (n : ℕ) (ns : List ℕ) → StandsFor s J → n ≡ void_asks J → ns ≡ ns
     ++ filter_map (member_awaited J) (range_with_len 1 n)
 none_awaited s J n ns h e =
     sym (ap (λ (ms : List ℕ). ns ++ ms) (nothing_given (member_awaited J) 1 n
@@ -65,11 +65,12 @@ one_awaited J n ks ns ms before now =
     one_given (Some k) = refl
 
 -- there are no more void asks than asks
-pub void_below : (s : Sheet) (J : History) → StandsFor s J → void_asks J ≤ length (asks J)
+pub void_below : (s : StateSnapshot) (J : History) → StandsFor s J → void_asks J ≤ length (asks J)
 void_below s J h = (asks_stand h.version h.is_address J h.legal).void_below
 
 -- all asks
-pub all_awaited : (s : Sheet) (J : History) (n : ℕ) (ns ms : List ℕ) → StandsFor s J → n ≡ length (asks J) → ns ≡ ms
+pub all_awaited : (s : StateSnapshot) (J : History) (n : ℕ) (ns ms : List ℕ) → StandsFor s J → n ≡ length (asks J) → ns
+    ≡ ms
     ++ filter_map (member_awaited J) (range_with_len 1 n) → ns ≡ ms ++ members_awaited J
 all_awaited s J n ns ms h e g = g ∙ ap (λ (xs : List ℕ). ms ++ filter_map (member_awaited J) xs)
     (ap (range_with_len 1) e ∙ sym (asks_numbered h.version h.is_address J h.legal))

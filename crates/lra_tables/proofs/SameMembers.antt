@@ -11,13 +11,13 @@ use Rattle.lra_model.specs.Words.{has_gone}
 use Rattle.lra_model.specs.History.{History, members, is_among}
 use Rattle.lra_model.specs.Members.{action_of, addresses_of, has_left}
 use Rattle.lra_model.specs.Joins.{same_address, same_addresses, already_member}
-use Rattle.lra_laws.specs.Sheets.{Sheet, StandsFor}
+use Rattle.lra_laws.specs.Snapshots.{StateSnapshot, StandsFor}
 use Rattle.lra_laws.proofs.ActionWords.{members_by}
 use Rattle.lra_laws.proofs.GoodLists.{find_same}
 use Rattle.lra_laws.proofs.MemberWords.{status_is}
 use Rattle.lra_laws.proofs.StatusCases.{gone_is_left}
 use Rattle.lra_laws.proofs.Tested.{both}
-use Rattle.lra_joined.specs.Digests.{digest_of}
+use Rattle.lra_tables.specs.inner.Digests.{digest_of}
 use Rattle.lra_rows.specs.declared.found.MemberRow.{MemberRow}
 use Rattle.lra_tables.specs.inner.Kept.{has_digest, staying_with}
 use Rattle.lra_tables.specs.inner.Same.{found_same}
@@ -79,7 +79,7 @@ regroup true false s d h = refl
 regroup false l s d h = and-false (l && d)
 
 -- the first that is found of those with the digest is the one that joined already
-pub found_already : (s : Sheet) (J : History) (key a : ℕ) (u : Addresses) → StandsFor s J
+pub found_already : (s : StateSnapshot) (J : History) (key a : ℕ) (u : Addresses) → StandsFor s J
     → find (found_same J a u) (staying_with key (digest_of key a u) J) ≡ already_member J a u
 unfolding already_member
 found_already s J key a u h =

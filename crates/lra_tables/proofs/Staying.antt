@@ -18,7 +18,7 @@ use Rattle.lra_model.specs.History.{History, members, joined_by, is_among}
 use Rattle.lra_model.specs.Members.{action_of, addresses_of, no_addresses, is_leave_of, has_left}
 use Rattle.lra_model.specs.Rules.{is_legal}
 use Rattle.lra_laws.specs.Rows.{MemberRow, member_row, row_at}
-use Rattle.lra_laws.specs.Sheets.{Contact, contact_of, Sheet, StandsFor}
+use Rattle.lra_laws.specs.Snapshots.{Endpoint, endpoint_of, StateSnapshot, StandsFor}
 use Rattle.lra_laws.proofs.GoodLists.{filter_same}
 use Rattle.lra_laws.proofs.Legal.{Allowed, IsNumbered, range_among, numbered_there, numbered_fresh, members_numbered}
 use Rattle.lra_laws.proofs.Named.{action_of_stays, action_of_new, addresses_stay, addresses_of_new, has_left_there}
@@ -29,8 +29,8 @@ use Rattle.lra_laws.proofs.Ranges.{member_in_range}
 use Rattle.lra_laws.proofs.RowLists.{eqb_self, row_there}
 use Rattle.lra_laws.proofs.StatusCases.{gone_is_left}
 use Rattle.lra_laws.proofs.Told.{entry, more, told}
-use Rattle.lra_joined.specs.Digests.{digest_of}
-use Rattle.lra_joined.specs.Listed.{without}
+use Rattle.lra_tables.specs.inner.Digests.{digest_of}
+use Rattle.lra_tables.specs.inner.Listed.{without}
 use Rattle.lra_tables.specs.inner.Kept.{has_digest, staying_with}
 
 -- ---- how many there are
@@ -61,16 +61,16 @@ staying_few v t J l key digest = let a = filter_shorter (has_digest key digest J
 -- ---- one snapshot
 
 -- the histories that one snapshot stands for have the same
-pub one_staying : (s : Sheet) (J K : History) → StandsFor s J → StandsFor s K → (key digest : ℕ)
+pub one_staying : (s : StateSnapshot) (J K : History) → StandsFor s J → StandsFor s K → (key digest : ℕ)
     → staying_with key digest K ≡ staying_with key digest J
 one_staying s J K h k key digest = filter_same (has_digest key digest K) (has_digest key digest J) (members K) same
     ∙ ap (filter (has_digest key digest J)) all
   where
     rows : map (member_row K) (members K) ≡ map (member_row J) (members J)
-    rows = ap (λ (x : Sheet). x.state.members) (sym k.sheet ∙ h.sheet)
+    rows = ap (λ (x : StateSnapshot). x.state.members) (sym k.snapshot ∙ h.snapshot)
 
-    contacts : map (contact_of K) (members K) ≡ map (contact_of J) (members J)
-    contacts = ap (λ (x : Sheet). x.contacts) (sym k.sheet ∙ h.sheet)
+    endpoints : map (endpoint_of K) (members K) ≡ map (endpoint_of J) (members J)
+    endpoints = ap (λ (x : StateSnapshot). x.endpoints) (sym k.snapshot ∙ h.snapshot)
 
     numbered : IsNumbered (members K)
     numbered = members_numbered k.version k.is_address K k.legal
@@ -91,12 +91,13 @@ one_staying s J K h k key digest = filter_same (has_digest key digest K) (has_di
         (sym (row_there (member_row K) (members K) p numbered there) ∙ ap (λ (rs : List MemberRow). row_at rs p) rows
         ∙ row_there (member_row J) (members J) p (members_numbered h.version h.is_address J h.legal)
         (ap (λ (ns : List ℕ). is_among ns p) (sym all) ∙ there)) in
-        let contact : contact_of K p ≡ contact_of J p = same_Some _ _
-        (sym (row_there (contact_of K) (members K) p numbered there) ∙ ap (λ (rs : List Contact). row_at rs p) contacts
-        ∙ row_there (contact_of J) (members J) p (members_numbered h.version h.is_address J h.legal)
+        let endpoint : endpoint_of K p ≡ endpoint_of J p = same_Some _ _
+        (sym (row_there (endpoint_of K) (members K) p numbered there) ∙ ap (λ (rs : List Endpoint). row_at rs p)
+        endpoints
+        ∙ row_there (endpoint_of J) (members J) p (members_numbered h.version h.is_address J h.legal)
         (ap (λ (ns : List ℕ). is_among ns p) (sym all) ∙ there)) in
         (λ i. not (left_is K p i) && (digest_of key (action_of K p) (addresses_of K p) == digest))
-        ∙ (λ i. not (has_gone (row i).status) && (digest_of key (row i).action (contact i).addresses == digest))
+        ∙ (λ i. not (has_gone (row i).status) && (digest_of key (row i).action (endpoint i).addresses == digest))
         ∙ (λ i. not (sym (left_is J p) i) && (digest_of key (action_of J p) (addresses_of J p) == digest))
 
 -- ---- one more entry

@@ -8,9 +8,9 @@ use Rattle.lra_model.specs.declared.entry.Entry.{Entry}
 use Rattle.lra_model.specs.Words.{is_active}
 use Rattle.lra_model.specs.History.{History, is_among}
 use Rattle.lra_model.specs.Settling.{with_settling}
-use Rattle.lra_laws.specs.Sheets.{Sheet, StandsFor, Follows}
-use Rattle.lra_board.specs.Boarded as boards
-use Rattle.lra_board.specs.Boarded.{Boarded}
+use Rattle.lra_laws.specs.Snapshots.{StateSnapshot, StandsFor, Follows}
+use Rattle.lra_tables.specs.inner.Boarded as boards
+use Rattle.lra_tables.specs.inner.Boarded.{Boarded}
 use Rattle.lra_rows.specs.declared.found.ActionRow.{ActionRow}
 use Rattle.lra_rows.specs.declared.found.MemberRow.{MemberRow}
 use Rattle.lra_rows.specs.Rowed.{Capacity}
@@ -19,7 +19,7 @@ use Rattle.lra_rows.specs.Found.{found_action, found_member}
 -- tables: what they keep of a history, how much their lists hold with no more memory, how many more members and actions
 -- their indexed sets take, how many more may join, and the key of the digests of addresses
 pub record Tabled : Type 0 where
-  pub sheet : Sheet
+  pub snapshot : StateSnapshot
   pub capacity : Capacity
   pub skips : ℕ
   pub turns : ℕ
@@ -30,7 +30,7 @@ pub record Tabled : Type 0 where
 -- the rows, with the room beside them
 abbrev pub board_of : Tabled → Boarded
 board_of t = record {
-  rows = record { sheet = t.sheet; capacity = t.capacity };
+  rows = record { snapshot = t.snapshot; capacity = t.capacity };
   skips = t.skips;
   turns = t.turns;
   ends =
@@ -46,7 +46,7 @@ takes_one d places = true
 abbrev pub has_room : Tabled → List Entry → Bool
 has_room t [] = true
 has_room t (e ∷ es) = boards.has_room e (board_of t) && takes_one e.deed t.places
-    && nat_le (t.sheet.entries + length (e ∷ es)) (2 ^ 63)
+    && nat_le (t.snapshot.entries + length (e ∷ es)) (2 ^ 63)
 
 -- a plan: the entries that are to come, the members whose wants they may change, and the actions whose deadlines they
 -- may change
@@ -86,7 +86,7 @@ abbrev pub CoversLimits : List ℕ → History → History → Type 0
 CoversLimits xs J K = (a : ℕ) → is_among xs a ≡ false → limiting K a ≡ limiting J a
 
 -- the plan of an entry that is allowed after the history: it, and all that settles after it
-pub record IsPlan (s : Sheet) (p : Planned) : Type 0 where
+pub record IsPlan (s : StateSnapshot) (p : Planned) : Type 0 where
   pub entry : Entry
   pub follows : Follows s entry
   pub block : (J : History) → StandsFor s J → p.entries ≡ with_settling J entry

@@ -1,3 +1,11 @@
 pub mod Kept
 pub mod Same
 pub mod Adopting
+pub mod Leaves
+pub mod Ranks
+pub mod SettlingIndex
+pub mod UndoLog
+pub mod IndexedSet
+pub mod Digests
+pub mod Listed
+pub mod Boarded

@@ -4,7 +4,7 @@ ghost use Rattle.std.specs.Prelude.{◌≡◌, ◌++◌, OnOk, IfOk, cond, is_so
 ghost use Rattle.lra_model.specs.History.{History};
 ghost use Rattle.lra_model.specs.Actions.{parent, members_of};
 ghost use Rattle.lra_model.specs.Members.{members_under};
-ghost use Rattle.lra_laws.specs.Sheets.{StandsFor};
+ghost use Rattle.lra_laws.specs.Snapshots.{StandsFor};
 ghost use Rattle.lra_laws.specs.Changes.{
   member_awaited,
   members_awaited,
@@ -27,7 +27,7 @@ pub(crate) struct Changes {
 
 /// Adds the member of an ask, where the ask is outstanding.
 fn add_awaited(rows: &Rows, ask: u64, members: &mut Vec<u64>) -> Result<(), Memory>
-    ensures { OnOk result ((J : History) → StandsFor rows.now.sheet J → members.new.items ≡ members.old.items
+    ensures { OnOk result ((J : History) → StandsFor rows.now.snapshot J → members.new.items ≡ members.old.items
         ++ option_to_list (member_awaited J ask)) }
 {
     if let Some(asked) = rows.ask(ask) {
@@ -40,7 +40,7 @@ fn add_awaited(rows: &Rows, ask: u64, members: &mut Vec<u64>) -> Result<(), Memo
 
 /// Adds the members of all outstanding asks, none of which was made before the last restart.
 fn add_all_awaited(rows: &Rows, members: &mut Vec<u64>) -> Result<(), Memory>
-    ensures { OnOk result ((J : History) → StandsFor rows.now.sheet J → members.new.items ≡ members.old.items
+    ensures { OnOk result ((J : History) → StandsFor rows.now.snapshot J → members.new.items ≡ members.old.items
         ++ members_awaited J) }
 {
     for place in rows.count_void()..rows.count_asks() {
@@ -51,7 +51,7 @@ fn add_all_awaited(rows: &Rows, members: &mut Vec<u64>) -> Result<(), Memory>
 
 /// Returns whether an action is nested in another.
 fn is_nested(rows: &Rows, action: u64) -> bool
-    ensures { (J : History) → StandsFor rows.now.sheet J → result ≡ is_some (parent J action) }
+    ensures { (J : History) → StandsFor rows.now.snapshot J → result ≡ is_some (parent J action) }
 {
     match rows.action(action) {
         Some(row) => row.parent.is_some(),
@@ -61,7 +61,7 @@ fn is_nested(rows: &Rows, action: u64) -> bool
 
 /// Returns the members of an action that ends, and of all below it where it is an outermost one.
 fn ended(rows: &Rows, action: u64) -> &[u64]
-    ensures { (J : History) → StandsFor rows.now.sheet J → result.now ≡ cond (is_some (parent J action))
+    ensures { (J : History) → StandsFor rows.now.snapshot J → result.now ≡ cond (is_some (parent J action))
         (members_of J action) (members_under J action) }
 {
     if is_nested(rows, action) {
@@ -73,7 +73,7 @@ fn ended(rows: &Rows, action: u64) -> &[u64]
 
 /// Adds the members whose wants a deed may change.
 fn add_members(rows: &Rows, deed: &Deed, members: &mut Vec<u64>) -> Result<(), Memory>
-    ensures { OnOk result ((J : History) → StandsFor rows.now.sheet J → members.new.items ≡ members.old.items
+    ensures { OnOk result ((J : History) → StandsFor rows.now.snapshot J → members.new.items ≡ members.old.items
         ++ members_changed J deed.now) }
 {
     match deed {
@@ -115,7 +115,7 @@ impl Changes {
     /// Lists what entries change that are to come after those of the rows: a number may come twice. This takes time
     /// linear in the entries, in what is listed and, for a restart, in the asks made since the last one.
     pub(crate) fn of(alloc: Global, rows: &Rows, entries: &[Entry]) -> Result<Changes, Memory>
-        ensures members { IfOk result (λ c. (J : History) → StandsFor rows.now.sheet J → c.members.items
+        ensures members { IfOk result (λ c. (J : History) → StandsFor rows.now.snapshot J → c.members.items
             ≡ members_changed_by J entries.now) }
         ensures actions { IfOk result (λ c. c.actions.items ≡ actions_changed_by entries.now) }
     {

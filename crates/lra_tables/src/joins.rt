@@ -5,17 +5,17 @@ ghost use Rattle.lra_model.specs.declared.entry.Deed.TheVariants as deeds;
 ghost use Rattle.lra_model.specs.declared.entry.Entry.{Entry as EntryValue};
 ghost use Rattle.lra_model.specs.History.{History};
 ghost use Rattle.lra_model.specs.Joins.{already_member};
-ghost use Rattle.lra_laws.specs.Sheets.{StandsFor};
+ghost use Rattle.lra_laws.specs.Snapshots.{StandsFor};
 ghost use Rattle.lra_tables.specs.inner.Kept.{IsKept, IsKeptBefore, TakesOne};
 ghost use Rattle.lra_tables.specs.inner.Same.{found_same};
 
-use lra_joined::Index;
+use crate::membership_index::MembershipIndex;
 use lra_model::{Deed, Entry, MemberStatus, Uris};
 use lra_rows::Rows;
 
 /// Returns whether a member of the action is there, hasn't left, and has these addresses.
 fn is_same_member(rows: &Rows, number: u64, action: u64, uris: &Uris) -> bool
-    ensures { (J : History) → StandsFor rows.now.sheet J → result ≡ found_same J action uris.now number }
+    ensures { (J : History) → StandsFor rows.now.snapshot J → result ≡ found_same J action uris.now number }
 {
     let Some(row) = rows.member(number) else {
         return false;
@@ -28,9 +28,14 @@ fn is_same_member(rows: &Rows, number: u64, action: u64, uris: &Uris) -> bool
 
 /// Returns the least member of an action that hasn't left and has these addresses already, found among those whose
 /// digest is the same.
-pub(crate) fn find_joined(index: &Index, rows: &Rows, action: u64, uris: &Uris) -> Option<u64>
-    requires { IsKept index.now rows.now.sheet }
-    ensures { (J : History) → StandsFor rows.now.sheet J → result ≡ already_member J action uris.now }
+pub(crate) fn find_joined(
+    index: &MembershipIndex,
+    rows: &Rows,
+    action: u64,
+    uris: &Uris,
+) -> Option<u64>
+    requires { IsKept index.now rows.now.snapshot }
+    ensures { (J : History) → StandsFor rows.now.snapshot J → result ≡ already_member J action uris.now }
 {
     let digest = index.digest(action, uris);
     for rank in 0..u64::MAX {
@@ -47,9 +52,9 @@ pub(crate) fn find_joined(index: &Index, rows: &Rows, action: u64, uris: &Uris) 
 }
 
 /// Removes a member that has left from the index.
-fn forget(index: &mut Index, rows: &Rows, member: u64)
-    requires { (e : EntryValue) × IsKeptBefore index.old e rows.now.sheet × (e.deed ≡ deeds.Leave member) }
-    ensures kept { IsKept index.new rows.now.sheet }
+fn forget(index: &mut MembershipIndex, rows: &Rows, member: u64)
+    requires { (e : EntryValue) × IsKeptBefore index.old e rows.now.snapshot × (e.deed ≡ deeds.Leave member) }
+    ensures kept { IsKept index.new rows.now.snapshot }
     ensures key { index.new.key ≡ index.old.key }
     ensures room { index.old.room ≤ index.new.room }
 {
@@ -67,10 +72,10 @@ fn forget(index: &mut Index, rows: &Rows, member: u64)
 
 /// Updates the index by an entry that the rows have already: adds the member that joins, for which there is room, or
 /// removes the one that leaves.
-pub(crate) fn keep(index: &mut Index, rows: &Rows, entry: &Entry)
-    requires before { IsKeptBefore index.old entry.now rows.now.sheet }
+pub(crate) fn keep(index: &mut MembershipIndex, rows: &Rows, entry: &Entry)
+    requires before { IsKeptBefore index.old entry.now rows.now.snapshot }
     requires room { TakesOne entry.now.deed index.old }
-    ensures kept { IsKept index.new rows.now.sheet }
+    ensures kept { IsKept index.new rows.now.snapshot }
     ensures key { index.new.key ≡ index.old.key }
     ensures room { index.old.room ≤ index.new.room + 1 }
 {

@@ -3,8 +3,14 @@
 #![tactic(auto)]
 
 mod changes;
+mod digest;
+mod indexed_set;
 mod joins;
+mod membership_index;
 mod plan;
+mod settle;
+mod settling_index;
+mod settling_state;
 mod tables;
 
 pub use lra_rows::{ActionRow, AskRow, MemberRow, Memory};

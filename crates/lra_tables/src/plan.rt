@@ -3,7 +3,7 @@
 ghost use Rattle.std.specs.Prelude.{◌≡◌};
 
 use lra_model::Entry;
-use lra_packed::Packed;
+use lra_rows::PackedAddresses;
 use std::marker::Model;
 
 /// An entry and all that settles after it, before any of it is appended. Dropping a plan changes nothing.
@@ -13,7 +13,7 @@ pub struct Plan {
     pub(crate) members: Vec<u64>,
     pub(crate) actions: Vec<u64>,
     /// The addresses of the member that joins, for the tables to keep.
-    pub(crate) uris: Option<Packed>,
+    pub(crate) uris: Option<PackedAddresses>,
 }
 
 impl Model for Plan {

@@ -20,7 +20,7 @@ use Rattle.lra_model.specs.History.{History}
 use Rattle.lra_model.specs.Rules.{is_legal}
 use Rattle.lra_model.specs.Wants.{stage_of}
 use Rattle.lra_ids.specs.Addresses.{is_address}
-use Rattle.lra_laws.specs.Sheets.{sheet_of}
+use Rattle.lra_laws.specs.Snapshots.{snapshot_of}
 use Rattle.lra_rows.specs.declared.found.AskRow.{AskRow}
 use Rattle.lra_rows.specs.declared.found.MemberRow.{MemberRow}
 use Rattle.lra_rows.specs.Found.{found_member, found_ask}
@@ -191,7 +191,13 @@ pub all_called : (o : Option Calls) (v : Version) (J K : History) → is_legal v
     → IfSome o (λ c. Keeps c K) → IfSome o (λ c. Called c J)
 all_called None v J K legal same keeps = tt
 all_called (Some c) v J K legal same keeps = record {
-  stands = record { version = v; is_address = is_address; legal = legal; sheet = keeps.sheet ∙ ap sheet_of same };
+  stands = record {
+    version = v;
+    is_address = is_address;
+    legal = legal;
+    snapshot = keeps.snapshot ∙ ap snapshot_of
+        same;
+  };
   told = λ a. keeps.told a ∙ ap (calls a) same;
 }
 

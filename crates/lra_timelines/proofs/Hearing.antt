@@ -12,7 +12,7 @@ use Rattle.lra_model.specs.Names.{version_name}
 use Rattle.lra_model.specs.declared.entry.Entry.{Entry}
 use Rattle.lra_model.specs.History.{History, steps}
 use Rattle.lra_model.specs.Rules.{is_legal, allows}
-use Rattle.lra_laws.specs.Sheets.{Sheet, sheet_of, StandsFor, Follows}
+use Rattle.lra_laws.specs.Snapshots.{StateSnapshot, snapshot_of, StandsFor, Follows}
 use Rattle.lra_laws.proofs.Legal.{legal_push, allows_from}
 use Rattle.lra_laws.proofs.Push.{step, steps_push}
 use Rattle.lra_ids.specs.Addresses.{is_address}
@@ -27,14 +27,14 @@ use Rattle.lra_timelines.specs.declared.timeline_items.Told.{Told}
 use Rattle.lra_timelines.specs.TimelineItems.{fact_in, status_now, told_of, told_at, told}
 
 -- the rows of the entries so far stand for them
-pub heard_stands : (h : Heard) (s : Sheet) (e : Entry) → s ≡ sheet_of h.entries
+pub heard_stands : (h : Heard) (s : StateSnapshot) (e : Entry) → s ≡ snapshot_of h.entries
     → is_legal h.version is_address (h.entries ++ e ∷ []) ≡ true → StandsFor s h.entries
 heard_stands h s e k l = record {
   version = h.version;
   is_address = is_address;
   legal =
       (legal_push h.version is_address h.entries e l).0;
-  sheet = k;
+  snapshot = k;
 }
 
 -- the next entry is allowed
@@ -43,7 +43,7 @@ pub heard_allows : (h : Heard) (e d : Entry) → is_legal h.version is_address (
 heard_allows h e d l same = ap (λ (x : Entry). allows h.version is_address h.entries x) same
     ∙ allows_from h.version is_address h.entries e (legal_push h.version is_address h.entries e l).1
 
-pub heard_follows : (h : Heard) (s : Sheet) (e d : Entry) → s ≡ sheet_of h.entries
+pub heard_follows : (h : Heard) (s : StateSnapshot) (e d : Entry) → s ≡ snapshot_of h.entries
     → is_legal h.version is_address (h.entries ++ e ∷ []) ≡ true → d ≡ e → Follows s d
 heard_follows h s e d k l same = record {
   history = h.entries;
@@ -52,13 +52,13 @@ heard_follows h s e d k l same = record {
     is_address = is_address;
     legal =
         (legal_push h.version is_address h.entries e l).0;
-    sheet = k;
+    snapshot = k;
   };
   allowed = heard_allows h e d l same;
 }
 
 -- the rows with one more entry stand for the entries with it
-pub stands_on : (h : Heard) (s t : Sheet) (e d : Entry) → s ≡ sheet_of h.entries
+pub stands_on : (h : Heard) (s t : StateSnapshot) (e d : Entry) → s ≡ snapshot_of h.entries
     → is_legal h.version is_address (h.entries ++ e ∷ []) ≡ true → d ≡ e
     → ((J : History) (k : StandsFor s J) → allows k.version k.is_address J d ≡ true → StandsFor t (J ++ d ∷ []))
     → StandsFor t (h.entries ++ d ∷ [])
@@ -68,7 +68,7 @@ stands_on h s t e d k l same next =
       is_address = is_address;
       legal =
           (legal_push h.version is_address h.entries e l).0;
-      sheet = k;
+      snapshot = k;
     }) (heard_allows h e d l same)
 
 -- no entries have no timeline items
@@ -96,9 +96,9 @@ told_on a J e d before after line status timeline_item same had at now is more =
     ∙ sym (told_push a J d)
     ∙ ap (λ (x : Entry). told a (J ++ x ∷ [])) same
 
-pub sheet_same : (J : History) (t : Sheet) (e d : Entry) → StandsFor t (J ++ d ∷ []) → d ≡ e → t
-    ≡ sheet_of (J ++ e ∷ [])
-sheet_same J t e d s same = s.sheet ∙ ap (λ (x : Entry). sheet_of (J ++ x ∷ [])) same
+pub snapshot_same : (J : History) (t : StateSnapshot) (e d : Entry) → StandsFor t (J ++ d ∷ []) → d ≡ e → t
+    ≡ snapshot_of (J ++ e ∷ [])
+snapshot_same J t e d s same = s.snapshot ∙ ap (λ (x : Entry). snapshot_of (J ++ x ∷ [])) same
 
 -- ---- before the first line
 

@@ -33,7 +33,7 @@ use Rattle.lra_auditor.specs.Feeding.{Feed, IsFollowed, StandsFor}
 use Rattle.lra_auditor.specs.Verdicts.{IsTextOf}
 use Rattle.lra_auditor.proofs.Feeds.{read_anyway}
 use Rattle.lra_reports.specs.Paging.{IsPaged}
-use Rattle.lra_audits.specs.Report.{joined}
+use Rattle.lra_verdict_lines.specs.VerdictLines.{joined}
 use Rattle.lra_model.specs.Names.{member_status_name}
 use Rattle.lra_reports.proofs.Lines.{IsPaged-line}
 use Rattle.lra_timelines.specs.declared.listing.Choice.{Choice}

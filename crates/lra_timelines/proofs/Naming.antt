@@ -14,8 +14,8 @@ use Rattle.lra_entries.specs.Numbers.{number_of}
 use Rattle.lra_entries.proofs.Numbers.{number_is, number_again}
 use Rattle.lra_ids.specs.Identifiers.{IsSpelling, id_text, id_bytes, action_uri}
 use Rattle.lra_ids.proofs.IdentifierFacts.{length-id_text}
-use Rattle.lra_instances.specs.Bearing.{instance_in}
-use Rattle.lra_instances.proofs.Bearings.{read_whole}
+use Rattle.lra_ids.specs.Bearing.{instance_in}
+use Rattle.lra_ids.proofs.Bearings.{read_whole}
 use Rattle.lra_timelines.specs.Wanted.{IsNamed, NamesNone}
 use Rattle.lra_timelines.specs.inner.Ids.{IsSpelled, IsNoId, IsNoUri}
 

@@ -3,7 +3,7 @@ use Rattle.std.proofs.Common.{◌≡◌, ℕ, ◌+◌, ◌<◌, List, [], ◌∷
 use Rattle.std.proofs.Common.{append_assoc}
 use Rattle.std.specs.Prelude.{codes}
 use Rattle.std.proofs.lemmas.List.{append-nil, map_more}
-use Rattle.lra_audits.specs.Report.{joined}
+use Rattle.lra_verdict_lines.specs.VerdictLines.{joined}
 use Rattle.lra_timelines.specs.declared.drawing.TheConstants.{LOOKS}
 use Rattle.lra_timelines.specs.Drawn.{top_of, row, rows, opening, lanes, framed}
 

@@ -13,7 +13,8 @@ use Rattle.lra_ids.specs.Addresses.{is_address}
 use Rattle.lra_rows.specs.declared.found.ActionRow.{ActionRow}
 use Rattle.lra_auditor.specs.Verdicts.{IsTextOf, IsFault}
 use Rattle.lra_audits.specs.declared.fault.RunFault.{RunFault}
-use Rattle.lra_audits.specs.Report.{joined, ReportsAudit}
+use Rattle.lra_audits.specs.Report.{ReportsAudit}
+use Rattle.lra_verdict_lines.specs.VerdictLines.{joined}
 use Rattle.lra_timelines.specs.declared.wanted.Wanted.{Wanted}
 use Rattle.lra_timelines.specs.declared.timeline.Timeline.{Timeline}
 use Rattle.lra_timelines.specs.declared.explaining.Form.{Form}
@@ -72,7 +73,7 @@ pub heard_tells : (s : Timeline) (v : Version) (i : ℕ) (J : History) (b : List
 heard_tells s v i J b t h =
     record {
       instance = h.0;
-      stands = record { version = v; is_address = is_address; legal = t.legal; sheet = h.1 };
+      stands = record { version = v; is_address = is_address; legal = t.legal; snapshot = h.1 };
       told = h.2;
     }
 

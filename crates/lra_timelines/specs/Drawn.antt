@@ -9,7 +9,7 @@ use Rattle.lra_model.specs.declared.status.ActionStatus.TheVariants as action
 use Rattle.lra_model.specs.Names.{action_status_name, outcome_name}
 use Rattle.lra_model.specs.History.{History}
 use Rattle.lra_escape.specs.Escapes.{escaped}
-use Rattle.lra_audits.specs.Report.{joined}
+use Rattle.lra_verdict_lines.specs.VerdictLines.{joined}
 use Rattle.lra_timelines.specs.declared.timeline_items.TimelineItem.{TimelineItem}
 use Rattle.lra_timelines.specs.declared.timeline_items.TimelineItem.TheVariants.{
   Started,

@@ -8,7 +8,8 @@ use Rattle.lra_model.specs.History.{History}
 use Rattle.lra_rows.specs.declared.found.ActionRow.{ActionRow}
 use Rattle.lra_rows.specs.Found.{found_action}
 use Rattle.lra_auditor.specs.Verdicts.{IsTextOf}
-use Rattle.lra_audits.specs.Report.{joined, line_feed, ReportsAudit}
+use Rattle.lra_audits.specs.Report.{ReportsAudit}
+use Rattle.lra_verdict_lines.specs.VerdictLines.{joined, line_feed}
 use Rattle.lra_timelines.specs.declared.wanted.Wanted.{Wanted}
 use Rattle.lra_timelines.specs.declared.timeline_items.Told.{Told}
 use Rattle.lra_timelines.specs.declared.explaining.Form.{Form}

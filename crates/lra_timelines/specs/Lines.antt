@@ -22,7 +22,8 @@ use Rattle.lra_course.specs.Listings.{listed_action, listing}
 use Rattle.lra_rows.specs.declared.found.ActionRow.{ActionRow}
 use Rattle.lra_rows.specs.Found.{found_action}
 use Rattle.lra_auditor.specs.Verdicts.{IsTextOf}
-use Rattle.lra_audits.specs.Report.{joined, line_feed, ReportsAudit}
+use Rattle.lra_audits.specs.Report.{ReportsAudit}
+use Rattle.lra_verdict_lines.specs.VerdictLines.{joined, line_feed}
 use Rattle.lra_timelines.specs.declared.listing.Choice.{Choice}
 use Rattle.lra_timelines.specs.TimelineItems.{told}
 use Rattle.lra_timelines.specs.Waits.{notes}

@@ -13,7 +13,7 @@ use Rattle.lra_model.specs.Words.{has_failed, is_silent}
 use Rattle.lra_model.specs.Names.{action_status_name}
 use Rattle.lra_model.specs.History.{History}
 use Rattle.lra_rows.specs.Found.{found_addresses}
-use Rattle.lra_audits.specs.Report.{joined, line_feed}
+use Rattle.lra_verdict_lines.specs.VerdictLines.{joined, line_feed}
 use Rattle.lra_timelines.specs.declared.timeline_items.TimelineItem.{TimelineItem}
 use Rattle.lra_timelines.specs.declared.timeline_items.TimelineItem.TheVariants.{
   Started,

@@ -1,7 +1,7 @@
 -- Texts of moments and durations.
 use Rattle.std.specs.Prelude.{ℕ, ◌+◌, ◌-◌, ◌*◌, ◌/◌, ◌%◌, nat_lt, List, [], ◌∷◌, ◌++◌, codes, cond}
 use Rattle.std.specs.Fmt.{decimal}
-use Rattle.lra_audits.specs.Report.{joined}
+use Rattle.lra_verdict_lines.specs.VerdictLines.{joined}
 use Rattle.lra_timelines.specs.declared.times.Date.{Date}
 
 -- the year of a day in a cycle of 400 years that each begin with March; both count from 0

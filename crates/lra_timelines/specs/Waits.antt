@@ -24,7 +24,7 @@ use Rattle.lra_rows.specs.Found.{found_action, found_member, found_addresses, fo
 use Rattle.lra_commands.specs.Due.{due_after}
 use Rattle.lra_commands.specs.Errands.{address_for}
 use Rattle.lra_commands.specs.Terms.{usual}
-use Rattle.lra_audits.specs.Report.{joined, line_feed}
+use Rattle.lra_verdict_lines.specs.VerdictLines.{joined, line_feed}
 use Rattle.lra_timelines.specs.declared.timeline_items.TimelineItem.{TimelineItem}
 use Rattle.lra_timelines.specs.declared.timeline_items.TimelineItem.TheVariants.{Asked, Answered}
 use Rattle.lra_timelines.specs.declared.timeline_items.Told.{Told}

@@ -4,7 +4,7 @@
 ghost use Rattle.std.specs.Prelude.{◌≡◌, ◌+◌, ◌++◌, ◌∷◌, [], ℕ, List, IfOk, OnOk, map, string_bytes};
 ghost use Rattle.std.specs.List.{flat_map};
 ghost use Rattle.lra_model.specs.History.{History};
-ghost use Rattle.lra_laws.specs.Sheets.{StandsFor};
+ghost use Rattle.lra_laws.specs.Snapshots.{StandsFor};
 ghost use Rattle.lra_escape.specs.Escapes.{escaped};
 ghost use Rattle.lra_timelines.specs.Drawn as drawn;
 ghost use Rattle.lra_timelines.specs.Sentences.{told_line as told_words};
@@ -144,7 +144,7 @@ fn words(alloc: Global, line: &str) -> Result<String, Memory>
 
 /// Returns the text element of a timeline item.
 fn told_words(alloc: Global, rows: &Rows, told: &Told) -> Result<String, Memory>
-    ensures { (J : History) → StandsFor rows.now.sheet J → IfOk result
+    ensures { (J : History) → StandsFor rows.now.snapshot J → IfOk result
         (λ text. string_bytes text ≡ drawn.words (told_words J told.now)) }
 {
     let line = told_line(alloc, rows, told)?;
@@ -160,7 +160,7 @@ fn head_row(alloc: Global, head: &str) -> Result<String, Memory>
 
 /// Returns the content of the row of a timeline item.
 fn told_row(alloc: Global, rows: &Rows, told: &Told) -> Result<String, Memory>
-    ensures { (J : History) → StandsFor rows.now.sheet J → IfOk result
+    ensures { (J : History) → StandsFor rows.now.snapshot J → IfOk result
         (λ text. string_bytes text ≡ drawn.told_row J told.now) }
 {
     let stretch = stretch(alloc, told.status)?;
@@ -216,7 +216,7 @@ impl Drawing {
 
 /// Adds the row of each timeline item.
 fn put_told(drawing: &mut Drawing, rows: &Rows, told: &[Told]) -> Result<(), Memory>
-    ensures { (J : History) (cs : List (List ℕ)) → StandsFor rows.now.sheet J → Draws drawing.old cs
+    ensures { (J : History) (cs : List (List ℕ)) → StandsFor rows.now.snapshot J → Draws drawing.old cs
         → OnOk result (Draws drawing.new (cs ++ map (drawn.told_row J) told.now)) }
 {
     for place in 0..told.len() {
@@ -273,7 +273,7 @@ pub(crate) fn draw(
     told: &[Told],
     notes: &[String],
 ) -> Result<String, Memory>
-    ensures { (J : History) → StandsFor rows.now.sheet J → IfOk result
+    ensures { (J : History) → StandsFor rows.now.snapshot J → IfOk result
         (λ text. string_bytes text ≡ drawn.picture J head.now told.now (map string_bytes notes.now)) }
 {
     let mut drawing = Drawing::new(alloc);

@@ -4,15 +4,14 @@ ghost use Rattle.std.specs.Prelude.{◌≡◌, IfOk, string_bytes};
 ghost use Rattle.std.specs.Option.{option_copied};
 ghost use Rattle.lra_model.specs.History.{History};
 ghost use Rattle.lra_model.specs.Words.{is_silent};
-ghost use Rattle.lra_laws.specs.Sheets.{StandsFor};
+ghost use Rattle.lra_laws.specs.Snapshots.{StandsFor};
 ghost use Rattle.lra_rows.specs.Found.{found_addresses};
 ghost use Rattle.lra_timelines.specs.Sentences as sentences;
 
 use crate::timeline_items::{TimelineItem, Told};
 use crate::times::{length_text, moment_text};
 use lra_model::{ActionStatus, AskKind, Cause, Memory, Outcome};
-use lra_packed::Packed;
-use lra_rows::Rows;
+use lra_rows::{PackedAddresses, Rows};
 use std::alloc::Global;
 
 /// Returns the words for the parent of an action, or an empty text if it isn't nested.
@@ -111,7 +110,7 @@ fn address_text(alloc: Global, name: &str, address: Option<&str>) -> Result<Stri
 }
 
 /// Returns the words for the addresses with which a member joined.
-fn addresses_text(alloc: Global, uris: &Packed) -> Result<String, Memory>
+fn addresses_text(alloc: Global, uris: &PackedAddresses) -> Result<String, Memory>
     ensures { IfOk result (λ text. string_bytes text ≡ sentences.addresses_text uris.now) }
 {
     let compensate = address_text(alloc, "compensate", uris.compensate())?;
@@ -124,7 +123,7 @@ fn addresses_text(alloc: Global, uris: &Packed) -> Result<String, Memory>
 
 /// Returns the sentence that says that a member joined, and with which addresses.
 fn joined_text(alloc: Global, rows: &Rows, member: u64) -> Result<String, Memory>
-    ensures { (J : History) → StandsFor rows.now.sheet J → IfOk result
+    ensures { (J : History) → StandsFor rows.now.snapshot J → IfOk result
         (λ text. string_bytes text ≡ sentences.joined_text member (found_addresses J member)) }
 {
     match rows.addresses(member) {
@@ -281,7 +280,7 @@ fn fact_text(
     status: ActionStatus,
     timeline_item: TimelineItem,
 ) -> Result<String, Memory>
-    ensures { (J : History) → StandsFor rows.now.sheet J → IfOk result
+    ensures { (J : History) → StandsFor rows.now.snapshot J → IfOk result
         (λ text. string_bytes text ≡ sentences.fact_text J status timeline_item) }
 {
     match timeline_item {
@@ -326,7 +325,7 @@ fn fact_text(
 
 /// Returns the line of a timeline item.
 pub(crate) fn told_line(alloc: Global, rows: &Rows, told: &Told) -> Result<String, Memory>
-    ensures { (J : History) → StandsFor rows.now.sheet J → IfOk result
+    ensures { (J : History) → StandsFor rows.now.snapshot J → IfOk result
         (λ text. string_bytes text ≡ sentences.told_line J told.now) }
 {
     let line = told.line;

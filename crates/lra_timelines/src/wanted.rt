@@ -21,8 +21,7 @@ ghost use Rattle.lra_ids.specs.Identifiers.{IsSpelling, id_text, action_uri};
 ghost use Rattle.lra_timelines.specs.Wanted.{IsWanted, NamesNone};
 ghost use Rattle.lra_timelines.specs.inner.Ids.{IsId, IsNoId, IsNoUri};
 
-use lra_ids::read_id;
-use lra_instances::instance_in;
+use lra_ids::{instance_in, read_id};
 use lra_journal::read_number;
 use lra_model::Instance;
 use std::str;

@@ -4,7 +4,7 @@ ghost use Rattle.std.specs.Prelude.{◌≡◌, true, [], IfOk};
 ghost use Rattle.lra_model.specs.declared.version.Version.{Version};
 ghost use Rattle.lra_model.specs.Rules.{is_legal};
 ghost use Rattle.lra_ids.specs.Addresses.{is_address};
-ghost use Rattle.lra_laws.specs.Sheets.{Follows, sheet_of};
+ghost use Rattle.lra_laws.specs.Snapshots.{Follows, snapshot_of};
 
 mod cascades;
 mod memory;
@@ -194,8 +194,8 @@ fn push_journal(journal: &mut String, history: &str) -> Result<(), Memory> {
 
 /// Returns the plan of an entry that is allowed now.
 fn plan_of(tables: &mut Tables, entry: &Entry) -> Result<Plan, Memory>
-    requires { Follows tables.old.sheet entry.now }
-    ensures { tables.new.sheet ≡ tables.old.sheet }
+    requires { Follows tables.old.snapshot entry.now }
+    ensures { tables.new.snapshot ≡ tables.old.snapshot }
 {
     match entry.copy() {
         Ok(entry) => tables.plan(entry),
@@ -210,8 +210,8 @@ fn shown(alloc: Global, entries: &[Entry]) -> Result<String, Memory> {
 
 /// Returns the entries planned for an entry that is allowed now, as text.
 fn planned(alloc: Global, tables: &mut Tables, entry: &Entry) -> Result<String, Memory>
-    requires { Follows tables.old.sheet entry.now }
-    ensures { tables.new.sheet ≡ tables.old.sheet }
+    requires { Follows tables.old.snapshot entry.now }
+    ensures { tables.new.snapshot ≡ tables.old.snapshot }
 {
     let plan = plan_of(tables, entry)?;
     let planned = shown(alloc, plan.entries());
@@ -272,7 +272,7 @@ fn assert_rows<R: Abort>(
     lines: &[&str],
 ) -> Result<(), Memory>
     requires legal { (v : Version) × (is_legal v is_address entries.now ≡ true) }
-    requires empty { tables.old.sheet ≡ sheet_of [] }
+    requires empty { tables.old.snapshot ≡ snapshot_of [] }
 {
     for entry in entries {
         let place = tables.count_entries() as usize;

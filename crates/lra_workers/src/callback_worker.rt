@@ -18,7 +18,7 @@ use lra_core::Errand;
 use lra_courier::{CallbackPool, Courier};
 use lra_front::Clock;
 use lra_model::Outcome;
-use lra_office::{Clerk, OfficeOf, OfficeRefusal, Serving};
+use lra_office::{Clerk, LockedService, OfficeOf, OfficeRefusal};
 use std::marker::PhantomData;
 use std::sync::Wait;
 
@@ -48,7 +48,7 @@ fn is_for_memory(end: WorkerEnd) -> bool
 
 /// Records what came of an errand. An errand whose ask isn't outstanding any more is discarded. If memory is refused,
 /// records it after a pause, as long as the gate lets turns be made.
-fn note<V: Serving, R: Wait, C: CallbackPool, G: Gate, K: Clock>(
+fn note<V: LockedService, R: Wait, C: CallbackPool, G: Gate, K: Clock>(
     rt: &R,
     office: &OfficeOf<V>,
     clerk: &mut Clerk<V>,
@@ -98,7 +98,7 @@ fn note<V: Serving, R: Wait, C: CallbackPool, G: Gate, K: Clock>(
 /// Hands an errand over to the callback pool, with the clerk's position, which covers the errand's ask: the pool
 /// carries it once the journal is durable up to there. If memory is refused, records that nothing came of the errand,
 /// so that its member is asked again.
-fn hand_over<V: Serving, R: Wait, C: CallbackPool, G: Gate, K: Clock>(
+fn hand_over<V: LockedService, R: Wait, C: CallbackPool, G: Gate, K: Clock>(
     rt: &R,
     office: &OfficeOf<V>,
     clerk: &mut Clerk<V>,
@@ -134,7 +134,7 @@ fn hand_over<V: Serving, R: Wait, C: CallbackPool, G: Gate, K: Clock>(
 }
 
 /// Takes the errand of something that is due and hands it over. Returns whether there was one.
-fn take_one<V: Serving, R: Wait, C: CallbackPool, G: Gate, K: Clock>(
+fn take_one<V: LockedService, R: Wait, C: CallbackPool, G: Gate, K: Clock>(
     rt: &R,
     office: &OfficeOf<V>,
     clerk: &mut Clerk<V>,
@@ -164,7 +164,7 @@ fn take_one<V: Serving, R: Wait, C: CallbackPool, G: Gate, K: Clock>(
 }
 
 /// Takes the errands of what is due, while there is room.
-fn take_due<V: Serving, R: Wait, C: CallbackPool, G: Gate, K: Clock>(
+fn take_due<V: LockedService, R: Wait, C: CallbackPool, G: Gate, K: Clock>(
     rt: &R,
     office: &OfficeOf<V>,
     clerk: &mut Clerk<V>,
@@ -197,7 +197,7 @@ fn take_due<V: Serving, R: Wait, C: CallbackPool, G: Gate, K: Clock>(
 }
 
 /// Records what came of one errand. Returns whether anything had come of any.
-fn record_one<V: Serving, R: Wait, C: CallbackPool, G: Gate, K: Clock>(
+fn record_one<V: LockedService, R: Wait, C: CallbackPool, G: Gate, K: Clock>(
     rt: &R,
     office: &OfficeOf<V>,
     clerk: &mut Clerk<V>,
@@ -226,7 +226,7 @@ fn record_one<V: Serving, R: Wait, C: CallbackPool, G: Gate, K: Clock>(
 }
 
 /// Records what came of each errand that is done.
-fn record_done<V: Serving, R: Wait, C: CallbackPool, G: Gate, K: Clock>(
+fn record_done<V: LockedService, R: Wait, C: CallbackPool, G: Gate, K: Clock>(
     rt: &R,
     office: &OfficeOf<V>,
     clerk: &mut Clerk<V>,
@@ -256,7 +256,7 @@ fn record_done<V: Serving, R: Wait, C: CallbackPool, G: Gate, K: Clock>(
 }
 
 /// Lets limits fire, and takes the errands of what is due.
-fn begin<V: Serving, R: Wait, C: CallbackPool, G: Gate, K: Clock>(
+fn begin<V: LockedService, R: Wait, C: CallbackPool, G: Gate, K: Clock>(
     rt: &R,
     office: &OfficeOf<V>,
     clerk: &mut Clerk<V>,
@@ -283,7 +283,7 @@ fn begin<V: Serving, R: Wait, C: CallbackPool, G: Gate, K: Clock>(
 
 /// Begins new work, if the gate lets it. Returns the first moment at which something will be due then, or is due and
 /// wasn't taken.
-fn begin_next<V: Serving, R: Wait, C: CallbackPool, G: Gate, K: Clock>(
+fn begin_next<V: LockedService, R: Wait, C: CallbackPool, G: Gate, K: Clock>(
     rt: &R,
     office: &OfficeOf<V>,
     clerk: &mut Clerk<V>,
@@ -317,7 +317,7 @@ fn begin_next<V: Serving, R: Wait, C: CallbackPool, G: Gate, K: Clock>(
 }
 
 /// Carries all errands that are under way, until that moment at most, and records what came of them.
-fn carry_on<V: Serving, R: Wait, C: CallbackPool, G: Gate, K: Clock>(
+fn carry_on<V: LockedService, R: Wait, C: CallbackPool, G: Gate, K: Clock>(
     rt: &R,
     office: &OfficeOf<V>,
     clerk: &mut Clerk<V>,
@@ -342,7 +342,7 @@ fn carry_on<V: Serving, R: Wait, C: CallbackPool, G: Gate, K: Clock>(
 }
 
 /// Begins new work, if the gate lets it. Then carries all errands that are under way, and records what came of them.
-fn take_turn<V: Serving, R: Wait, C: CallbackPool, G: Gate, K: Clock>(
+fn take_turn<V: LockedService, R: Wait, C: CallbackPool, G: Gate, K: Clock>(
     rt: &R,
     office: &OfficeOf<V>,
     clerk: &mut Clerk<V>,
@@ -374,7 +374,7 @@ fn take_turn<V: Serving, R: Wait, C: CallbackPool, G: Gate, K: Clock>(
 ///
 /// If the office is refused memory, the gate pauses, and the work goes on: that ends no callback worker. The errands
 /// that are under way when it ends stay in the callback pool.
-pub fn run_callback_worker<V: Serving, R: Wait, C: CallbackPool, G: Gate, K: Clock>(
+pub fn run_callback_worker<V: LockedService, R: Wait, C: CallbackPool, G: Gate, K: Clock>(
     rt: &R,
     office: &OfficeOf<V>,
     clerk: Clerk<V>,

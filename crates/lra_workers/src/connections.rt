@@ -10,7 +10,7 @@ ghost use Rattle.lra_workers.specs.Connections.{clerk_sight, Connection, EndsSer
 
 use crate::acceptor::{Acceptor, Line};
 use lra_front::{Clock, serve_stream};
-use lra_office::{Clerk, OfficeOf, Serving, WhichLock, Window};
+use lra_office::{Clerk, LockedService, OfficeOf, WhichLock, Window};
 use std::alloc::Global;
 use std::io::{self, Read, Write};
 use std::marker::Brand;
@@ -50,7 +50,7 @@ impl<L: Line> Write for WriteHalf<'_, L> {
 }
 
 /// Answers one connection as a clerk of an office.
-fn answer<V: Serving, R: Wait, L: Line, K: Clock, Q: WhichLock>(
+fn answer<V: LockedService, R: Wait, L: Line, K: Clock, Q: WhichLock>(
     rt: &R,
     alloc: Global,
     line: &L,
@@ -73,7 +73,7 @@ fn answer<V: Serving, R: Wait, L: Line, K: Clock, Q: WhichLock>(
 
 /// Answers so many connections as a clerk of an office, one after another, each as long as it lasts. Ends before that
 /// if no connection can be accepted.
-pub fn serve_connections<V: Serving, R: Wait, D: Acceptor, K: Clock>(
+pub fn serve_connections<V: LockedService, R: Wait, D: Acceptor, K: Clock>(
     rt: &R,
     alloc: Global,
     acceptor: &D,

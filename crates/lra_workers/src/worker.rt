@@ -17,7 +17,7 @@ use lra_core::{Errand, errands_are_of_asks};
 use lra_courier::Courier;
 use lra_front::Clock;
 use lra_model::Outcome;
-use lra_office::{Clerk, OfficeOf, OfficeRefusal, Serving};
+use lra_office::{Clerk, LockedService, OfficeOf, OfficeRefusal};
 use std::sync::Wait;
 
 /// Number of times that a gate may answer for one errand that it isn't carried yet.
@@ -36,7 +36,7 @@ pub enum WorkerEnd {
 }
 
 /// Lets limits fire until none has passed.
-pub(crate) fn fire<V: Serving, R: Wait, C: Courier, K: Clock>(
+pub(crate) fn fire<V: LockedService, R: Wait, C: Courier, K: Clock>(
     rt: &R,
     office: &OfficeOf<V>,
     clerk: &mut Clerk<V>,
@@ -88,7 +88,7 @@ pub(crate) fn after_refusal(refusal: OfficeRefusal) -> Result<(), WorkerEnd>
 }
 
 /// Returns the errand of something that is due, if anything is.
-pub(crate) fn next_errand<V: Serving, R: Wait, C: Courier, K: Clock>(
+pub(crate) fn next_errand<V: LockedService, R: Wait, C: Courier, K: Clock>(
     rt: &R,
     office: &OfficeOf<V>,
     clerk: &mut Clerk<V>,
@@ -110,7 +110,7 @@ pub(crate) fn next_errand<V: Serving, R: Wait, C: Courier, K: Clock>(
 }
 
 /// Records what came of an errand. An errand whose ask isn't outstanding any more is discarded.
-fn record<V: Serving, R: Wait, C: Courier, G: Gate, K: Clock>(
+fn record<V: LockedService, R: Wait, C: Courier, G: Gate, K: Clock>(
     rt: &R,
     office: &OfficeOf<V>,
     clerk: &mut Clerk<V>,
@@ -145,7 +145,7 @@ fn record<V: Serving, R: Wait, C: Courier, G: Gate, K: Clock>(
 }
 
 /// Carries an errand and records what came of it, if the gate lets it.
-fn carry<V: Serving, R: Wait, C: Courier, G: Gate, K: Clock>(
+fn carry<V: LockedService, R: Wait, C: Courier, G: Gate, K: Clock>(
     rt: &R,
     office: &OfficeOf<V>,
     clerk: &mut Clerk<V>,
@@ -173,7 +173,7 @@ fn carry<V: Serving, R: Wait, C: Courier, G: Gate, K: Clock>(
 }
 
 /// Lets limits fire, and carries one errand, if one is due.
-fn take_turn<V: Serving, R: Wait, C: Courier, G: Gate, K: Clock>(
+fn take_turn<V: LockedService, R: Wait, C: Courier, G: Gate, K: Clock>(
     rt: &R,
     office: &OfficeOf<V>,
     clerk: &mut Clerk<V>,
@@ -202,7 +202,7 @@ fn take_turn<V: Serving, R: Wait, C: Courier, G: Gate, K: Clock>(
 
 /// Works as a clerk of an office: lets limits fire, asks for what is due, carries each errand and records what came of
 /// it, turn by turn as long as the gate lets it.
-pub fn run_worker<V: Serving, R: Wait, C: Courier, G: Gate, K: Clock>(
+pub fn run_worker<V: LockedService, R: Wait, C: Courier, G: Gate, K: Clock>(
     rt: &R,
     office: &OfficeOf<V>,
     clerk: Clerk<V>,

@@ -1,7 +1,7 @@
 -- What a coordinator keeps besides its entries.
 use Rattle.std.specs.Prelude.{◌≡◌}
 use Rattle.lra_model.specs.History.{History}
-use Rattle.lra_laws.specs.Sheets.{sheet_of}
+use Rattle.lra_laws.specs.Snapshots.{snapshot_of}
 use Rattle.lra_tables.specs.Plans.{Tabled}
 use Rattle.lra_commands.specs.declared.limits.Terms.{Terms}
 use Rattle.lra_commands.specs.Terms.{AreKeepable}
@@ -13,5 +13,5 @@ use Rattle.lra_schedule.specs.Schedules.{IsScheduleOf}
 pub record IsKept (s : Terms) (t : Tabled) (p : Planned) (J : History) : Type 0 where
   pub keepable : AreKeepable s.limits
   pub lawful : IsLawful s J
-  pub tables : t.sheet ≡ sheet_of J
+  pub tables : t.snapshot ≡ snapshot_of J
   pub schedule : IsScheduleOf s.limits p J

@@ -19,7 +19,7 @@ use Rattle.lra_core.specs.declared.making.Ask.{Ask}
 use Rattle.lra_core.specs.declared.making.Parts.{Parts}
 use Rattle.lra_core.specs.Shape.{Shape}
 use Rattle.lra_core.specs.Prepares.{Written, IsBlockOf, HasRoom}
-use Rattle.lra_judge.specs.Decisions.{IsWritten}
+use Rattle.lra_validator.specs.Decisions.{IsWritten}
 
 -- the ask that an entry makes, if it makes one
 abbrev pub ask_in : Entry → Option Ask

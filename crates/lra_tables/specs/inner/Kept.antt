@@ -5,9 +5,9 @@ use Rattle.lra_model.specs.declared.entry.Deed.TheVariants.{Join}
 use Rattle.lra_model.specs.declared.entry.Entry.{Entry}
 use Rattle.lra_model.specs.History.{History, members}
 use Rattle.lra_model.specs.Members.{action_of, addresses_of, has_left}
-use Rattle.lra_laws.specs.Sheets.{Sheet, StandsFor, Follows, sheet_after}
-use Rattle.lra_joined.specs.Digests.{digest_of}
-use Rattle.lra_joined.specs.Listed.{Indexed, IsListed}
+use Rattle.lra_laws.specs.Snapshots.{StateSnapshot, StandsFor, Follows, snapshot_after}
+use Rattle.lra_tables.specs.inner.Digests.{digest_of}
+use Rattle.lra_tables.specs.inner.Listed.{Indexed, IsListed}
 
 -- whether a member hasn't left, and its action and addresses have a digest under a key
 abbrev pub has_digest : ℕ → ℕ → History → ℕ → Bool
@@ -18,15 +18,15 @@ abbrev pub staying_with : ℕ → ℕ → History → List ℕ
 staying_with key digest J = filter (has_digest key digest J) (members J)
 
 -- an index has these members under each digest, of every history that the snapshot stands for
-abbrev pub IsKept : Indexed → Sheet → Type 0
+abbrev pub IsKept : Indexed → StateSnapshot → Type 0
 IsKept i s = (J : History) → StandsFor s J → (digest : ℕ) → IsListed i digest (staying_with i.key digest J)
 
 -- the index was kept before the last entry, which the snapshot has already
-pub record IsKeptBefore (i : Indexed) (e : Entry) (s : Sheet) : Type 0 where
-  pub before : Sheet
+pub record IsKeptBefore (i : Indexed) (e : Entry) (s : StateSnapshot) : Type 0 where
+  pub before : StateSnapshot
   pub follows : Follows before e
   pub kept : IsKept i before
-  pub after : s ≡ sheet_after e before
+  pub after : s ≡ snapshot_after e before
 
 -- there is room for one more where a deed lets a member join
 abbrev pub TakesOne : Deed → Indexed → Type 0

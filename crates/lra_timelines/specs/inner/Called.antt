@@ -9,7 +9,7 @@ use Rattle.lra_model.specs.declared.entry.Entry.{Entry}
 use Rattle.lra_model.specs.Words.{is_undecided}
 use Rattle.lra_model.specs.Wants.{stage_of}
 use Rattle.lra_model.specs.History.{History}
-use Rattle.lra_laws.specs.Sheets.{sheet_of, StandsFor}
+use Rattle.lra_laws.specs.Snapshots.{snapshot_of, StandsFor}
 use Rattle.lra_rows.specs.declared.found.AskRow.{AskRow}
 use Rattle.lra_rows.specs.declared.found.MemberRow.{MemberRow}
 use Rattle.lra_rows.specs.Found.{found_member, found_ask}
@@ -69,10 +69,10 @@ told_call J line moment o a = option_map_or (λ (c : Call). kept_more c.action (
 
 -- the calls have the rows of a history, and the items of each action's calls
 pub record Keeps (c : Calls) (J : History) : Type 0 where
-  pub sheet : c.rows.sheet ≡ sheet_of J
+  pub snapshot : c.rows.snapshot ≡ snapshot_of J
   pub told : (a : ℕ) → kept_at c.told.items a ≡ calls a J
 
 -- the same of a legal history
 pub record Called (c : Calls) (J : History) : Type 0 where
-  pub stands : StandsFor c.rows.sheet J
+  pub stands : StandsFor c.rows.snapshot J
   pub told : (a : ℕ) → kept_at c.told.items a ≡ calls a J

@@ -5,7 +5,7 @@ ghost use Rattle.std.specs.Prelude.{◌≡◌, true, OnOk, IfOk, []};
 ghost use Rattle.lra_model.specs.declared.version.Version.{Version};
 ghost use Rattle.lra_model.specs.Rules.{is_legal};
 ghost use Rattle.lra_ids.specs.Addresses.{is_address};
-ghost use Rattle.lra_laws.specs.Sheets.{Follows, sheet_of, sheet_after};
+ghost use Rattle.lra_laws.specs.Snapshots.{Follows, snapshot_of, snapshot_after};
 
 use super::{is_sound, plan_of};
 use lra_journal::read_journal;
@@ -144,8 +144,8 @@ fn apply<R: Abort>(
     others: &Tables,
     entry: &Entry,
 ) -> Result<(), Memory>
-    requires { Follows tables.old.sheet entry.now }
-    ensures { OnOk result (tables.new.sheet ≡ sheet_after entry.now tables.old.sheet) }
+    requires { Follows tables.old.snapshot entry.now }
+    ensures { OnOk result (tables.new.snapshot ≡ snapshot_after entry.now tables.old.snapshot) }
 {
     if tables.apply(entry).is_err() {
         assert_same(rt, tables, others);
@@ -156,8 +156,8 @@ fn apply<R: Abort>(
 
 /// Applies an entry to the tables that others are compared with. If memory is refused the second try has it.
 fn follow(tables: &mut Tables, entry: &Entry) -> Result<(), Memory>
-    requires { Follows tables.old.sheet entry.now }
-    ensures { OnOk result (tables.new.sheet ≡ sheet_after entry.now tables.old.sheet) }
+    requires { Follows tables.old.snapshot entry.now }
+    ensures { OnOk result (tables.new.snapshot ≡ snapshot_after entry.now tables.old.snapshot) }
 {
     if tables.apply(entry).is_err() {
         tables.apply(entry)?;
@@ -167,8 +167,8 @@ fn follow(tables: &mut Tables, entry: &Entry) -> Result<(), Memory>
 
 /// Returns whether there is memory to plan an entry. Drops the plan.
 fn is_planned(tables: &mut Tables, entry: &Entry) -> bool
-    requires { Follows tables.old.sheet entry.now }
-    ensures { tables.new.sheet ≡ tables.old.sheet }
+    requires { Follows tables.old.snapshot entry.now }
+    ensures { tables.new.snapshot ≡ tables.old.snapshot }
 {
     match plan_of(tables, entry) {
         Ok(plan) => {
@@ -181,8 +181,8 @@ fn is_planned(tables: &mut Tables, entry: &Entry) -> bool
 
 /// Plans an entry, and checks that the rows are unchanged. If memory is refused the second try has it.
 fn plan<R: Abort>(rt: &R, tables: &mut Tables, others: &Tables, entry: &Entry)
-    requires { Follows tables.old.sheet entry.now }
-    ensures { tables.new.sheet ≡ tables.old.sheet }
+    requires { Follows tables.old.snapshot entry.now }
+    ensures { tables.new.snapshot ≡ tables.old.snapshot }
 {
     let is_first = is_planned(tables, entry);
     assert_same(rt, tables, others);
@@ -201,8 +201,8 @@ fn fill<R: Abort>(
     entries: &[Entry],
 ) -> Result<(), Memory>
     requires legal { (v : Version) × (is_legal v is_address entries.now ≡ true) }
-    requires empty { tables.old.sheet ≡ sheet_of [] }
-    requires others { others.old.sheet ≡ sheet_of [] }
+    requires empty { tables.old.snapshot ≡ snapshot_of [] }
+    requires others { others.old.snapshot ≡ snapshot_of [] }
 {
     for entry in entries {
         plan(rt, tables, others, entry);

@@ -1,6 +1,6 @@
 use Rattle.std.proofs.Common.{◌≡◌, false}
-use Rattle.lra_ids.specs.Addresses.{is_address}
-use Rattle.lra_ids.proofs.AddressFacts.{is_address-fault}
+use Rattle.lra_addresses.specs.Addresses.{is_address}
+use Rattle.lra_addresses.proofs.AddressFacts.{is_address-fault}
 use Rattle.lra_ids.proofs.base.address_in.Goals as goal
 
 pub returns-in_default : goal.returns-in_default

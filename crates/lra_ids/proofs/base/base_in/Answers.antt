@@ -1,9 +1,9 @@
 use Rattle.std.proofs.Common.{◌≡◌, ◌∙◌, true, false, Ok, IfSome, ℕ, List, Bool, sym, ap, subst, refl}
 use Rattle.std.specs.Prelude.{◌&&◌, bytes_eq}
 use Rattle.std.proofs.lemmas.Slice.Eq.{bytes_eq-Decides}
-use Rattle.lra_ids.specs.Addresses.{is_base, address_of}
+use Rattle.lra_addresses.specs.Addresses.{is_base, address_of}
 use Rattle.lra_ids.specs.Bases.{is_own_base}
-use Rattle.lra_ids.proofs.AddressFacts.{is_address-own}
+use Rattle.lra_addresses.proofs.AddressFacts.{is_address-own}
 use Rattle.lra_ids.proofs.base.base_in.Goals as goal
 
 -- where two texts are the same, it doesn't matter of which of them a test is

@@ -7,5 +7,5 @@ abbrev pub invariant-loop-place : goal.invariant-loop-place
 invariant-loop-place g l = record {
   same_lock : pass_id l.pass ≡ lock_id l.office.lock;
   newcomer : (pass_view l.pass).number ≡ 0;
-  all_of_it : All (λ job. IsClerkOf l.office.lock g.V.Serving.covers job.1) l.all.items;
+  all_of_it : All (λ job. IsClerkOf l.office.lock g.V.LockedService.covers job.1) l.all.items;
 }

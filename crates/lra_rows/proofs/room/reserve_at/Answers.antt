@@ -8,32 +8,32 @@ use Rattle.lra_rows.proofs.room.reserve_at.Goals as goal
 
 pub returns-in-Some-get_mut-clause-same : goal.returns-in-Some-get_mut-clause-same
 returns-in-Some-get_mut-clause-same c =
-    map-same (λ (n : Nested). n.nest) c.args.nests.now.items c.in-Some.place c.in-Some-get_mut.nest.now
+    map-same (λ (n : Nested). n.nesting) c.args.nestings.now.items c.in-Some.place c.in-Some-get_mut.nesting.now
     c.reserve.new.self
-    (slice_get_read c.args.nests.now.items _ c.in-Some.place c.in-Some-get_mut.nest.now c.args.nests.now.ok.0
+    (slice_get_read c.args.nestings.now.items _ c.in-Some.place c.in-Some-get_mut.nesting.now c.args.nestings.now.ok.0
     (c.in-Some-get_mut.ensures.variant.0 refl) c.in-Some-get_mut.ensures.value) c.reserve.ensures.same
 
 pub returns-in-Some-get_mut-clause-ok : goal.returns-in-Some-get_mut-clause-ok
 returns-in-Some-get_mut-clause-ok c =
     on_ok_weaker c.reserve.result
-    (λ h. rw c.in-Some.ensures (place_there c.args.nests.now.items c.in-Some.place c.in-Some-get_mut.nest.now
+    (λ h. rw c.in-Some.ensures (place_there c.args.nestings.now.items c.in-Some.place c.in-Some-get_mut.nesting.now
     c.reserve.new.self c.args.list
-    (slice_get_read c.args.nests.now.items _ c.in-Some.place c.in-Some-get_mut.nest.now c.args.nests.now.ok.0
+    (slice_get_read c.args.nestings.now.items _ c.in-Some.place c.in-Some-get_mut.nesting.now c.args.nestings.now.ok.0
     (c.in-Some-get_mut.ensures.variant.0 refl) c.in-Some-get_mut.ensures.value) h)) c.reserve.ensures.ok
 
 pub returns-in-Some-get_mut-clause-kept : goal.returns-in-Some-get_mut-clause-kept
 returns-in-Some-get_mut-clause-kept c =
-    place_kept c.args.nests.now.items c.in-Some.place c.in-Some-get_mut.nest.now c.reserve.new.self
-    (slice_get_read c.args.nests.now.items _ c.in-Some.place c.in-Some-get_mut.nest.now c.args.nests.now.ok.0
+    place_kept c.args.nestings.now.items c.in-Some.place c.in-Some-get_mut.nesting.now c.reserve.new.self
+    (slice_get_read c.args.nestings.now.items _ c.in-Some.place c.in-Some-get_mut.nesting.now c.args.nestings.now.ok.0
     (c.in-Some-get_mut.ensures.variant.0 refl) c.in-Some-get_mut.ensures.value) c.reserve.ensures.kept
 
 pub returns-in-None-clause-ok : goal.returns-in-None-clause-ok
-returns-in-None-clause-ok c = rw c.in-Some.ensures (place_past c.args.nests.now.items c.in-Some.place c.args.list
-    (slice_get_past c.args.nests.now.items c.in-Some.place
-    (past (cases_lt c.in-Some.place (length c.args.nests.now.items)))))
+returns-in-None-clause-ok c = rw c.in-Some.ensures (place_past c.args.nestings.now.items c.in-Some.place c.args.list
+    (slice_get_past c.args.nestings.now.items c.in-Some.place
+    (past (cases_lt c.in-Some.place (length c.args.nestings.now.items)))))
   where
-    past : (c.in-Some.place < length c.args.nests.now.items) ⊎ (length c.args.nests.now.items ≤ c.in-Some.place)
-        → length c.args.nests.now.items ≤ c.in-Some.place
+    past : (c.in-Some.place < length c.args.nestings.now.items) ⊎ (length c.args.nestings.now.items ≤ c.in-Some.place)
+        → length c.args.nestings.now.items ≤ c.in-Some.place
     past (inr x) = x
     past (inl x) = let h : false ≡ true = c.in-None.ensures.variant.1
-        (subst (λ n. c.in-Some.place < n) (sym c.args.nests.now.ok.0) x) in absurd cc
+        (subst (λ n. c.in-Some.place < n) (sym c.args.nestings.now.ok.0) x) in absurd cc

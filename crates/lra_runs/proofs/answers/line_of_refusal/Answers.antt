@@ -2,7 +2,7 @@ use Rattle.std.proofs.Common.{◌≡◌, ◌++◌, ◌∷◌, [], List, ℕ, ref
 use Rattle.std.specs.Prelude.{string_bytes, codes, Err}
 use Rattle.std.proofs.lemmas.Result.{IfOk-weaker}
 use Rattle.lra_commands.specs.Names.{refusal_name}
-use Rattle.lra_audits.specs.Report.{joined, line_feed}
+use Rattle.lra_verdict_lines.specs.VerdictLines.{joined, line_feed}
 use Rattle.lra_runs.specs.Play.{refusal_detail, answer_line}
 use Rattle.lra_runs.proofs.answers.line_of_refusal.Goals as goal
 

@@ -6,5 +6,6 @@ use Rattle.lra_service.proofs.post.add_all.Goals as goal
 
 pub returns-clause-hired : goal.returns-clause-hired
 returns-clause-hired g c = all_pushed {X = Role × Clerk g.row.V.Denot g.row.V-Origin.Denot g.V.Kept}
-    (λ job. IsAt g.V.Serving.setting g.V.Serving.covers c.args.office.now job.1) _ _ _ c.in_ok-push.ensures.items
+    (λ job. IsAt g.V.LockedService.setting g.V.LockedService.covers c.args.office.now job.1) _ _ _
+    c.in_ok-push.ensures.items
     c.in_ok-last.ensures.hired c.in_ok-last.ensures.other

@@ -7,5 +7,6 @@ use Rattle.lra_service.proofs.post.register_worker.Goals as goal
 
 pub returns-in-Ok-clause-hired : goal.returns-in-Ok-clause-hired
 returns-in-Ok-clause-hired g c = all_pushed {X = Role × Clerk g.row.V.Denot g.row.V-Origin.Denot g.V.Kept}
-    (λ job. IsAt g.V.Serving.setting g.V.Serving.covers c.args.office.now job.1) _ _ _ c.in_ok-push.ensures.items
+    (λ job. IsAt g.V.LockedService.setting g.V.LockedService.covers c.args.office.now job.1) _ _ _
+    c.in_ok-push.ensures.items
     c.requires.hired (search rules)

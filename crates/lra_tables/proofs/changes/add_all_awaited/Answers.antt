@@ -4,7 +4,7 @@ use Rattle.lra_tables.proofs.changes.add_all_awaited.Goals as goal
 
 pub loop-place-init : goal.loop-place-init
 loop-place-init c = λ history stands.
-    none_awaited c.args.rows.now.sheet history c.count_void-place.result c.args.members.now.items stands
+    none_awaited c.args.rows.now.snapshot history c.count_void-place.result c.args.members.now.items stands
     (c.count_void-place.ensures history stands)
 
 pub loop-place-preserved : goal.loop-place-preserved
@@ -16,8 +16,8 @@ pub returns : goal.returns
 returns c = λ history stands.
     let void = c.count_void-place.ensures history stands in
     let asks = c.count_asks-place-end.ensures history stands in
-    let below = void_below c.args.rows.now.sheet history stands in
+    let below = void_below c.args.rows.now.snapshot history stands in
     let first : c.count_void-place.result ≤ c.count_asks-place-end.result = omega arith in
     let whole : c.loop-place.place ≡ c.count_asks-place-end.result = omega arith in
-    all_awaited c.args.rows.now.sheet history c.loop-place.place c.loop-place.members.items c.args.members.now.items
+    all_awaited c.args.rows.now.snapshot history c.loop-place.place c.loop-place.members.items c.args.members.now.items
     stands (whole ∙ c.count_asks-place-end.ensures history stands) (c.loop-place.invariant history stands)

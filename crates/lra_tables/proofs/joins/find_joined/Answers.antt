@@ -14,7 +14,7 @@ returns-then-is_same_member c = λ history stands.
     (sym (c.is_same_member.ensures history stands) ∙ c.if-is_same_member.true))
     ∙ ap (λ (digest : ℕ). find (found_same history c.args.action c.args.uris.now)
     (staying_with c.args.index.now.key digest history)) c.digest-digest.ensures
-    ∙ found_already c.args.rows.now.sheet history c.args.index.now.key c.args.action c.args.uris.now stands
+    ∙ found_already c.args.rows.now.snapshot history c.args.index.now.key c.args.action c.args.uris.now stands
 
 pub returns-in-None : goal.returns-in-None
 returns-in-None c = λ history stands.
@@ -23,7 +23,7 @@ returns-in-None c = λ history stands.
     (sym (c.in-None.ensures ∙ c.requires history stands c.digest-digest.result c.loop-rank.rank)))
     ∙ ap (λ (digest : ℕ). find (found_same history c.args.action c.args.uris.now)
     (staying_with c.args.index.now.key digest history)) c.digest-digest.ensures
-    ∙ found_already c.args.rows.now.sheet history c.args.index.now.key c.args.action c.args.uris.now stands
+    ∙ found_already c.args.rows.now.snapshot history c.args.index.now.key c.args.action c.args.uris.now stands
 
 pub loop-rank-preserved : goal.loop-rank-preserved
 loop-rank-preserved c = λ history stands.
@@ -45,4 +45,4 @@ returns c = λ history stands.
     (staying_with c.args.index.now.key c.digest-digest.result history) past)
     ∙ ap (λ (digest : ℕ). find (found_same history c.args.action c.args.uris.now)
     (staying_with c.args.index.now.key digest history)) c.digest-digest.ensures
-    ∙ found_already c.args.rows.now.sheet history c.args.index.now.key c.args.action c.args.uris.now stands
+    ∙ found_already c.args.rows.now.snapshot history c.args.index.now.key c.args.action c.args.uris.now stands

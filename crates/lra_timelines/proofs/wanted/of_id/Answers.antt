@@ -1,5 +1,5 @@
 use Rattle.std.proofs.Common.{ap, ◌∙◌}
-use Rattle.lra_instances.specs.Bearing.{instance_in}
+use Rattle.lra_ids.specs.Bearing.{instance_in}
 use Rattle.lra_timelines.proofs.Naming.{where_none, id_unborne, id_unread}
 use Rattle.lra_timelines.proofs.wanted.of_id.Goals as goal
 

@@ -9,7 +9,7 @@ pub returns-in-Ok-clause-held : goal.returns-in-Ok-clause-held
 returns-in-Ok-clause-held g c =
     let origin = (clerk_view c.args.clerk.now).origin in
     let seen = (clerk_view c.args.clerk.now).seen in
-    gained_asks g.V.Serving.covers seen (g.C.CallbackPool.held c.args.callback_pool.now)
+    gained_asks g.V.LockedService.covers seen (g.C.CallbackPool.held c.args.callback_pool.now)
     (g.C.CallbackPool.held c.take.new.self)
     (c.args.errand, c.position.result) c.in-Ok.ensures.ok
     (record {
@@ -18,7 +18,7 @@ returns-in-Ok-clause-held g c =
         origin = origin;
         seen = seen;
         of_ask = c.requires.of_ask;
-        covered = subst (λ (n : ℕ). IsTrue (g.V.Serving.covers origin seen n)) (sym c.position.ensures)
+        covered = subst (λ (n : ℕ). IsTrue (g.V.LockedService.covers origin seen n)) (sym c.position.ensures)
             c.requires.clerk.covered;
       };
     })
@@ -26,7 +26,7 @@ returns-in-Ok-clause-held g c =
 
 pub returns-in-Err-clause-held : goal.returns-in-Err-clause-held
 returns-in-Err-clause-held g c =
-    asks_stay g.V.Serving.covers _ _ (g.C.CallbackPool.held c.take.new.self)
-    (carried g.V.Serving.setting g.C.CallbackPool.gives g.K.Clock.tells (post (clerk_view c.args.clerk.now)
+    asks_stay g.V.LockedService.covers _ _ (g.C.CallbackPool.held c.take.new.self)
+    (carried g.V.LockedService.setting g.C.CallbackPool.gives g.K.Clock.tells (post (clerk_view c.args.clerk.now)
     c.args.clock.now) (post (clerk_view c.note.new.clerk) c.note.new.clock) c.note.result c.note.ensures.work)
-    (same_asks g.V.Serving.covers _ _ _ c.in-Err.ensures.err.1 c.requires.held)
+    (same_asks g.V.LockedService.covers _ _ _ c.in-Err.ensures.err.1 c.requires.held)

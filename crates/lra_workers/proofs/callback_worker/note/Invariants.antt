@@ -7,12 +7,12 @@ use Rattle.lra_workers.proofs.callback_worker.note.Given as goal
 
 abbrev pub invariant-loop : goal.invariant-loop
 invariant-loop g l = record {
-  clerk : IsClerkOf l.office.lock g.V.Serving.covers l.clerk;
+  clerk : IsClerkOf l.office.lock g.V.LockedService.covers l.clerk;
   number : l.clerk.number ≡ l.fn.clerk.number;
   of_ask : IsOfAsk (clerk_view l.clerk).seen l.errand;
   given : g.C.CallbackPool.gives l.errand.ask l.errand.kind l.outcome;
   work : (s : Post g.row.V-Origin.Denot g.row.K.Denot)
-      → Carries g.V.Serving.setting g.C.CallbackPool.gives g.K.Clock.tells
+      → Carries g.V.LockedService.setting g.C.CallbackPool.gives g.K.Clock.tells
       s (post (clerk_view l.fn.clerk) l.fn.clock)
-      → Carries g.V.Serving.setting g.C.CallbackPool.gives g.K.Clock.tells s (post (clerk_view l.clerk) l.clock);
+      → Carries g.V.LockedService.setting g.C.CallbackPool.gives g.K.Clock.tells s (post (clerk_view l.clerk) l.clock);
 }

@@ -9,8 +9,8 @@ pub loop-init : goal.loop-init
 loop-init g c = record {
   clerk = c.requires.clerk;
   number = refl;
-  held = no_asks g.V.Serving.covers _ (g.C.CallbackPool.held c.args.callback_pool.now) c.requires.none;
-  work = carries_none g.V.Serving.setting g.C.CallbackPool.gives g.K.Clock.tells
+  held = no_asks g.V.LockedService.covers _ (g.C.CallbackPool.held c.args.callback_pool.now) c.requires.none;
+  work = carries_none g.V.LockedService.setting g.C.CallbackPool.gives g.K.Clock.tells
       (post (clerk_view c.args.clerk) c.args.clock.now);
 }
 
@@ -19,7 +19,7 @@ loop-preserved-in-Err g c = record {
   clerk = c.take_turn.ensures.clerk;
   number = c.take_turn.ensures.number ∙ c.loop.invariant.number;
   held = c.take_turn.ensures.held;
-  work = goes_on g.V.Serving.setting g.C.CallbackPool.gives g.K.Clock.tells
+  work = goes_on g.V.LockedService.setting g.C.CallbackPool.gives g.K.Clock.tells
       (post (clerk_view c.args.clerk) c.args.clock.now) (post (clerk_view c.take_turn.new.clerk) c.take_turn.new.clock)
       c.in-Err.end
       (sym c.is_for_memory.ensures ∙ c.if-not-is_for_memory.false) (c.in-Err.ensures.work

@@ -7,9 +7,10 @@ use Rattle.lra_workers.proofs.callback_worker.run_callback_worker.Given as goal
 
 abbrev pub invariant-loop : goal.invariant-loop
 invariant-loop g l = record {
-  clerk : IsClerkOf l.office.lock g.V.Serving.covers l.clerk;
+  clerk : IsClerkOf l.office.lock g.V.LockedService.covers l.clerk;
   number : l.clerk.number ≡ l.fn.clerk.number;
-  held : AreHanded g.V.Serving.covers (clerk_view l.clerk).seen (g.C.CallbackPool.held l.callback_pool);
-  work : Carries g.V.Serving.setting g.C.CallbackPool.gives g.K.Clock.tells (post (clerk_view l.fn.clerk) l.fn.clock)
+  held : AreHanded g.V.LockedService.covers (clerk_view l.clerk).seen (g.C.CallbackPool.held l.callback_pool);
+  work : Carries g.V.LockedService.setting g.C.CallbackPool.gives g.K.Clock.tells
+      (post (clerk_view l.fn.clerk) l.fn.clock)
       (post (clerk_view l.clerk) l.clock);
 }

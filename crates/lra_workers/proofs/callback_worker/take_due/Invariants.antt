@@ -7,11 +7,11 @@ use Rattle.lra_workers.proofs.callback_worker.take_due.Given as goal
 
 abbrev pub invariant-loop-taken : goal.invariant-loop-taken
 invariant-loop-taken g l = record {
-  clerk : IsClerkOf l.office.lock g.V.Serving.covers l.clerk;
+  clerk : IsClerkOf l.office.lock g.V.LockedService.covers l.clerk;
   number : l.clerk.number ≡ l.fn.clerk.number;
-  held : AreHanded g.V.Serving.covers (clerk_view l.clerk).seen (g.C.CallbackPool.held l.callback_pool);
+  held : AreHanded g.V.LockedService.covers (clerk_view l.clerk).seen (g.C.CallbackPool.held l.callback_pool);
   work : (s : Post g.row.V-Origin.Denot g.row.K.Denot)
-      → Carries g.V.Serving.setting g.C.CallbackPool.gives g.K.Clock.tells
+      → Carries g.V.LockedService.setting g.C.CallbackPool.gives g.K.Clock.tells
       s (post (clerk_view l.fn.clerk) l.fn.clock)
-      → Carries g.V.Serving.setting g.C.CallbackPool.gives g.K.Clock.tells s (post (clerk_view l.clerk) l.clock);
+      → Carries g.V.LockedService.setting g.C.CallbackPool.gives g.K.Clock.tells s (post (clerk_view l.clerk) l.clock);
 }

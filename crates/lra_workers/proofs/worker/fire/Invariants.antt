@@ -5,9 +5,10 @@ use Rattle.lra_workers.proofs.worker.fire.Given as goal
 
 abbrev pub invariant-loop : goal.invariant-loop
 invariant-loop g l = record {
-  clerk : IsClerkOf l.office.lock g.V.Serving.covers l.clerk;
+  clerk : IsClerkOf l.office.lock g.V.LockedService.covers l.clerk;
   number : l.clerk.number ≡ l.fn.clerk.number;
-  work : (s : Post g.row.V-Origin.Denot g.row.K.Denot) → Works g.V.Serving.setting g.C.Courier.gives g.K.Clock.tells s
+  work : (s : Post g.row.V-Origin.Denot g.row.K.Denot) → Works g.V.LockedService.setting g.C.Courier.gives
+      g.K.Clock.tells s
       (post (clerk_view l.fn.clerk) l.fn.clock)
-      → Works g.V.Serving.setting g.C.Courier.gives g.K.Clock.tells s (post (clerk_view l.clerk) l.clock);
+      → Works g.V.LockedService.setting g.C.Courier.gives g.K.Clock.tells s (post (clerk_view l.clerk) l.clock);
 }

@@ -8,6 +8,6 @@ pub loop-init : goal.loop-init
 loop-init g c = record {
   clerk = c.requires;
   number = refl;
-  work = works_none g.V.Serving.setting g.C.Courier.gives
+  work = works_none g.V.LockedService.setting g.C.Courier.gives
       g.K.Clock.tells (post (clerk_view c.args.clerk) c.args.clock.now);
 }

@@ -15,7 +15,8 @@ give-pass-requires-clause-own g c = may_add_nothing (pass_view c.args.pass) (hel
 pub returns-in-Ok-known-clause-known : goal.returns-in-Ok-known-clause-known
 returns-in-Ok-known-clause-known g c =
     let suits = c.in-Ok.ensures.value in
-    answered g.V.Serving.setting (pass_view c.args.pass) (held_view c.in-Ok.taken.0) (pass_view c.give-pass.result) _ _
+    answered g.V.LockedService.setting (pass_view c.args.pass) (held_view c.in-Ok.taken.0)
+    (pass_view c.give-pass.result) _ _
     c.args.query _ suits.same_origin
     (record {
       begins = suits.begins;
@@ -23,14 +24,15 @@ returns-in-Ok-known-clause-known g c =
       own = suits.own;
       enrolled = suits.enrolled;
       kept =
-          g.met.V.Serving.tells c.in-Ok.taken.1 suits.lawful_now;
+          g.met.V.LockedService.tells c.in-Ok.taken.1 suits.lawful_now;
     }) c.in-Ok.ensures.view
     (sym c.in-Ok-known.is ∙ c.query-known.ensures) c.give-pass.ensures.view
 
 pub returns-in-Err-known-clause-known : goal.returns-in-Err-known-clause-known
 returns-in-Err-known-clause-known g c =
     let suits = c.in-Ok.ensures.value in
-    answered g.V.Serving.setting (pass_view c.args.pass) (held_view c.in-Ok.taken.0) (pass_view c.give-pass.result) _ _
+    answered g.V.LockedService.setting (pass_view c.args.pass) (held_view c.in-Ok.taken.0)
+    (pass_view c.give-pass.result) _ _
     c.args.query _ suits.same_origin
     (record {
       begins = suits.begins;
@@ -38,20 +40,20 @@ returns-in-Err-known-clause-known g c =
       own = suits.own;
       enrolled = suits.enrolled;
       kept =
-          g.met.V.Serving.tells c.in-Ok.taken.1 suits.lawful_now;
+          g.met.V.LockedService.tells c.in-Ok.taken.1 suits.lawful_now;
     }) c.in-Ok.ensures.view
     (sym c.in-Err-known.is ∙ c.query-known.ensures) c.give-pass.ensures.view
 
 pub returns-in-Ok-known-clause-placed : goal.returns-in-Ok-known-clause-placed
 returns-in-Ok-known-clause-placed g c =
-    covered_at g.V.Serving.covers (pass_view c.args.pass)
+    covered_at g.V.LockedService.covers (pass_view c.args.pass)
     (held_view c.in-Ok.taken.0) (pass_view c.give-pass.result) _ _ _ c.position.result
     c.in-Ok.ensures.value.same_origin c.in-Ok.ensures.view
     c.give-pass.ensures.view c.position.ensures
 
 pub returns-in-Err-known-clause-placed : goal.returns-in-Err-known-clause-placed
 returns-in-Err-known-clause-placed g c =
-    covered_at g.V.Serving.covers (pass_view c.args.pass)
+    covered_at g.V.LockedService.covers (pass_view c.args.pass)
     (held_view c.in-Ok.taken.0) (pass_view c.give-pass.result) _ _ _ c.position.result
     c.in-Ok.ensures.value.same_origin c.in-Ok.ensures.view
     c.give-pass.ensures.view c.position.ensures

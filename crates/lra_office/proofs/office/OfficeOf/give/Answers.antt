@@ -16,12 +16,13 @@ give-pass-requires-clause-own g c =
     let suits = c.in-Ok.ensures.value in
     may_add (pass_view c.args.pass) (held_view c.in-Ok.taken.0) _ _ _ c.args.by c.args.moment c.args.command.now
     c.serve-served.result c.in-Ok.ensures.view
-    (g.met.V.Serving.tells c.in-Ok.taken.1 suits.lawful_now) c.requires.number c.serve-served.ensures.served
+    (g.met.V.LockedService.tells c.in-Ok.taken.1 suits.lawful_now) c.requires.number c.serve-served.ensures.served
 
 pub returns-in-Ok-served-clause-given : goal.returns-in-Ok-served-clause-given
 returns-in-Ok-served-clause-given g c =
     let suits = c.in-Ok.ensures.value in
-    grown g.V.Serving.setting (pass_view c.args.pass) (held_view c.in-Ok.taken.0) (pass_view c.give-pass.result) _ _ _ _
+    grown g.V.LockedService.setting (pass_view c.args.pass) (held_view c.in-Ok.taken.0) (pass_view c.give-pass.result) _
+    _ _ _
     c.in-Ok-served.committed suits.same_origin
     (record {
       begins = suits.begins;
@@ -29,16 +30,17 @@ returns-in-Ok-served-clause-given g c =
       own = suits.own;
       enrolled = suits.enrolled;
       kept =
-          g.met.V.Serving.tells c.in-Ok.taken.1 suits.lawful_now;
+          g.met.V.LockedService.tells c.in-Ok.taken.1 suits.lawful_now;
     }) c.in-Ok.ensures.view c.in-Ok-served.ensures.served
-    (subst (λ o. IsKeptBy (g.V.Serving.setting o) (g.V.Kept.history c.serve-served.new.self))
-    c.serve-served.ensures.origin (g.met.V.Serving.tells c.serve-served.new.self c.serve-served.ensures.lawful))
+    (subst (λ o. IsKeptBy (g.V.LockedService.setting o) (g.V.Kept.history c.serve-served.new.self))
+    c.serve-served.ensures.origin (g.met.V.LockedService.tells c.serve-served.new.self c.serve-served.ensures.lawful))
     c.give-pass.ensures.view
 
 pub returns-in-Err-served-clause-given : goal.returns-in-Err-served-clause-given
 returns-in-Err-served-clause-given g c =
     let suits = c.in-Ok.ensures.value in
-    not_grown g.V.Serving.setting (pass_view c.args.pass) (held_view c.in-Ok.taken.0) (pass_view c.give-pass.result) _ _
+    not_grown g.V.LockedService.setting (pass_view c.args.pass) (held_view c.in-Ok.taken.0)
+    (pass_view c.give-pass.result) _ _
     _ _ c.in-Err-served.refusal suits.same_origin
     (record {
       begins = suits.begins;
@@ -46,14 +48,14 @@ returns-in-Err-served-clause-given g c =
       own = suits.own;
       enrolled = suits.enrolled;
       kept =
-          g.met.V.Serving.tells c.in-Ok.taken.1 suits.lawful_now;
+          g.met.V.LockedService.tells c.in-Ok.taken.1 suits.lawful_now;
     }) c.in-Ok.ensures.view c.in-Err-served.ensures.served
     c.give-pass.ensures.view
 
 pub returns-in-Err-served-clause-stopped : goal.returns-in-Err-served-clause-stopped
 returns-in-Err-served-clause-stopped g c = λ e.
     let same : c.in-Err-served.refusal ≡ Stopped = cc in
-    stopped_at g.V.Kept.origin g.V.Kept.history g.V.Kept.lawful g.V.Serving.has_stopped c.in-Ok.taken.1
+    stopped_at g.V.Kept.origin g.V.Kept.history g.V.Kept.lawful g.V.LockedService.has_stopped c.in-Ok.taken.1
     c.serve-served.new.self (pass_view c.args.pass) (held_view c.in-Ok.taken.0) (pass_view c.give-pass.result)
     c.in-Ok.ensures.value.same_origin c.in-Ok.ensures.view
     c.serve-served.ensures.lawful c.serve-served.ensures.origin c.give-pass.ensures.view
@@ -61,14 +63,14 @@ returns-in-Err-served-clause-stopped g c = λ e.
 
 pub returns-in-Ok-served-clause-placed : goal.returns-in-Ok-served-clause-placed
 returns-in-Ok-served-clause-placed g c =
-    covered_at g.V.Serving.covers (pass_view c.args.pass)
+    covered_at g.V.LockedService.covers (pass_view c.args.pass)
     (held_view c.in-Ok.taken.0) (pass_view c.give-pass.result) _ _ _ c.position.result
     (c.serve-served.ensures.origin ∙ c.in-Ok.ensures.value.same_origin) c.in-Ok.ensures.view
     c.give-pass.ensures.view c.position.ensures
 
 pub returns-in-Err-served-clause-placed : goal.returns-in-Err-served-clause-placed
 returns-in-Err-served-clause-placed g c =
-    covered_at g.V.Serving.covers (pass_view c.args.pass)
+    covered_at g.V.LockedService.covers (pass_view c.args.pass)
     (held_view c.in-Ok.taken.0) (pass_view c.give-pass.result) _ _ _ c.position.result
     (c.serve-served.ensures.origin ∙ c.in-Ok.ensures.value.same_origin) c.in-Ok.ensures.view
     c.give-pass.ensures.view c.position.ensures

@@ -14,7 +14,8 @@ give-pass-requires-clause-own g c = may_add_nothing (pass_view c.args.pass) (hel
 pub returns-clause-next : goal.returns-clause-next
 returns-clause-next g c =
     let suits = c.in-Ok.ensures.value in
-    foretold g.V.Serving.setting (pass_view c.args.pass) (held_view c.in-Ok.taken.0) (pass_view c.give-pass.result) _ _
+    foretold g.V.LockedService.setting (pass_view c.args.pass) (held_view c.in-Ok.taken.0)
+    (pass_view c.give-pass.result) _ _
     _ suits.same_origin
     (record {
       begins = suits.begins;
@@ -22,13 +23,13 @@ returns-clause-next g c =
       own = suits.own;
       enrolled = suits.enrolled;
       kept =
-          g.met.V.Serving.tells c.in-Ok.taken.1 suits.lawful_now;
+          g.met.V.LockedService.tells c.in-Ok.taken.1 suits.lawful_now;
     }) c.in-Ok.ensures.view c.next_moment-next.ensures
     c.give-pass.ensures.view
 
 pub returns-clause-placed : goal.returns-clause-placed
 returns-clause-placed g c =
-    covered_at g.V.Serving.covers (pass_view c.args.pass)
+    covered_at g.V.LockedService.covers (pass_view c.args.pass)
     (held_view c.in-Ok.taken.0) (pass_view c.give-pass.result) _ _ _ c.position.result
     c.in-Ok.ensures.value.same_origin c.in-Ok.ensures.view
     c.give-pass.ensures.view c.position.ensures

@@ -1,7 +1,7 @@
 use Rattle.std.proofs.Common.{ap, ◌∙◌}
-use Rattle.lra_laws.specs.Sheets.{Sheet}
+use Rattle.lra_laws.specs.Snapshots.{StateSnapshot}
 use Rattle.lra_rows.specs.Rowed.{Rowed}
 use Rattle.lra_rows.proofs.rows.Rows.count_asks.Goals as goal
 
 pub returns : goal.returns
-returns c = λ J h. ap (λ (s : Sheet). s.state.asks) (ap (λ (r : Rowed). r.sheet) c.self.view_is ∙ h.sheet)
+returns c = λ J h. ap (λ (s : StateSnapshot). s.state.asks) (ap (λ (r : Rowed). r.snapshot) c.self.view_is ∙ h.snapshot)

@@ -2,10 +2,10 @@ use Rattle.std.proofs.Common.{length, ap, ◌∙◌}
 use Rattle.std.proofs.lemmas.List.{length-map}
 use Rattle.lra_model.specs.History.{members}
 use Rattle.lra_laws.specs.Rows.{member_row}
-use Rattle.lra_laws.specs.Sheets.{Sheet}
+use Rattle.lra_laws.specs.Snapshots.{StateSnapshot}
 use Rattle.lra_rows.specs.Rowed.{Rowed}
 use Rattle.lra_rows.proofs.rows.Rows.count_members.Goals as goal
 
 pub returns : goal.returns
-returns c = λ J h. c.len.ensures ∙ c.self.inside.members.ok.0 ∙ ap (λ (s : Sheet). length s.state.members)
-    (ap (λ (r : Rowed). r.sheet) c.self.view_is ∙ h.sheet) ∙ length-map (members J) (member_row J)
+returns c = λ J h. c.len.ensures ∙ c.self.inside.members.ok.0 ∙ ap (λ (s : StateSnapshot). length s.state.members)
+    (ap (λ (r : Rowed). r.snapshot) c.self.view_is ∙ h.snapshot) ∙ length-map (members J) (member_row J)

@@ -2,7 +2,7 @@ use Rattle.std.proofs.Common.{sym}
 use Rattle.lra_model.specs.declared.version.Version.TheVariants as version
 use Rattle.std.specs.Prelude.{true}
 use Rattle.lra_laws.proofs.Legal.{legal_empty}
-use Rattle.lra_rows.proofs.SheetCounts.{sheet_empty}
+use Rattle.lra_rows.proofs.SnapshotCounts.{snapshot_empty}
 use Rattle.lra_rows.proofs.rows.Rows.empty.Goals as goal
 
 pub returns : goal.returns
@@ -12,6 +12,6 @@ returns c =
       version = version.One;
       is_address = λ text. true;
       legal = legal_empty version.One (λ text. true);
-      sheet =
-          sym sheet_empty;
+      snapshot =
+          sym snapshot_empty;
     })

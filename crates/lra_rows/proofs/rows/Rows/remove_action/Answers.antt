@@ -1,8 +1,8 @@
 use Rattle.std.proofs.Common.{refl}
 use Rattle.lra_rows.specs.Steps.{without_last}
-use Rattle.lra_rows.specs.declared.nest.Listed.TheVariants as listed
+use Rattle.lra_rows.specs.declared.nesting.Listed.TheVariants as listed
 use Rattle.lra_rows.specs.inner.Nested.{Nested}
-use Rattle.lra_rows.proofs.Rooms.{map-without_last, nests-without, capacities-without}
+use Rattle.lra_rows.proofs.Rooms.{map-without_last, nestings-without, capacities-without}
 use Rattle.lra_rows.proofs.rows.Rows.remove_action.Goals as goal
 
 pub returns-in-Some : goal.returns-in-Some
@@ -15,10 +15,10 @@ returns-in-Some c =
       c.remove_last.ensures.items,
       c.remove_last.ensures.capacity,
       c.in-Some.is,
-      nests-without listed.Children c.in-Some.parent (without_last c.self.inside.nests.items),
-      capacities-without listed.Children c.in-Some.parent (without_last c.self.inside.nests.items),
-      map-without_last (λ (n : Nested). n.nest) c.self.inside.nests.items,
-      map-without_last (λ (n : Nested). n.capacity) c.self.inside.nests.items,
+      nestings-without listed.Children c.in-Some.parent (without_last c.self.inside.nestings.items),
+      capacities-without listed.Children c.in-Some.parent (without_last c.self.inside.nestings.items),
+      map-without_last (λ (n : Nested). n.nesting) c.self.inside.nestings.items,
+      map-without_last (λ (n : Nested). n.capacity) c.self.inside.nestings.items,
       ← c.self.view_is,
     ) refl
 
@@ -30,7 +30,7 @@ returns-in_default c =
       c.remove_last.ensures.items,
       c.remove_last.ensures.capacity,
       c.in_default.is,
-      map-without_last (λ (n : Nested). n.nest) c.self.inside.nests.items,
-      map-without_last (λ (n : Nested). n.capacity) c.self.inside.nests.items,
+      map-without_last (λ (n : Nested). n.nesting) c.self.inside.nestings.items,
+      map-without_last (λ (n : Nested). n.capacity) c.self.inside.nestings.items,
       ← c.self.view_is,
     ) refl

@@ -1,8 +1,8 @@
 use Rattle.std.proofs.Common.{refl}
 use Rattle.lra_laws.specs.Rows.{change_row}
-use Rattle.lra_rows.specs.declared.nest.Listed.TheVariants as listed
+use Rattle.lra_rows.specs.declared.nesting.Listed.TheVariants as listed
 use Rattle.lra_rows.specs.inner.Nested.{without_number}
-use Rattle.lra_rows.proofs.Rooms.{nests-without, capacities-without}
+use Rattle.lra_rows.proofs.Rooms.{nestings-without, capacities-without}
 use Rattle.lra_rows.proofs.rows.Rows.remove_member.Goals as goal
 
 pub returns-clause-rows : goal.returns-clause-rows
@@ -17,11 +17,11 @@ returns-clause-rows c =
       c.remove_at.ensures.capacity,
       c.remove_last.ensures.items,
       c.remove_last.ensures.capacity,
-      nests-without listed.Members c.args.action (change_row (without_number listed.Under) c.args.top
-          c.self.inside.nests.items),
+      nestings-without listed.Members c.args.action (change_row (without_number listed.Under) c.args.top
+          c.self.inside.nestings.items),
       capacities-without listed.Members c.args.action (change_row (without_number listed.Under) c.args.top
-          c.self.inside.nests.items),
-      nests-without listed.Under c.args.top c.self.inside.nests.items,
-      capacities-without listed.Under c.args.top c.self.inside.nests.items,
+          c.self.inside.nestings.items),
+      nestings-without listed.Under c.args.top c.self.inside.nestings.items,
+      capacities-without listed.Under c.args.top c.self.inside.nestings.items,
       ← c.self.view_is,
     ) refl

@@ -22,5 +22,6 @@ returns c = λ K stands.
     (c.count_actions.ensures K stands)
     (subst (λ (m : Moments). AreRenewed (limit_in K) m now.limits (range_with_len 1 c.count_actions.result))
     c.fill_members.ensures.limits (c.in_ok-fill_actions.ensures.limits K stands)) in
-    filled c.args.limits.now old now c.args.tables.now.sheet K (c.new-schedule.ensures c.args.limits.now) stands retries
+    filled c.args.limits.now old now c.args.tables.now.snapshot K (c.new-schedule.ensures c.args.limits.now) stands
+    retries
     limits

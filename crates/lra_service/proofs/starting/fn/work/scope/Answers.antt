@@ -19,7 +19,7 @@ loop-job-preserved-else-is_err g c =
     let step = c.in-Some.ensures.steps in (
       tt,
       tt,
-      behind_first (λ job. IsAt g.V.Serving.setting g.V.Serving.covers
+      behind_first (λ job. IsAt g.V.LockedService.setting g.V.LockedService.covers
           c.captures.office.now job.1) _ _ _ step.0 c.loop-job.invariant.2,
     )
 

@@ -8,4 +8,5 @@ abbrev pub invariant-loop-job : goal.invariant-loop-job
 invariant-loop-job g l =
     (goal.iterator-loop-job g).can_next l.job-iterator
     × (goal.iterator-loop-job g).is_finite l.job-iterator
-    × All (λ job. IsAt g.V.Serving.setting g.V.Serving.covers l.office job.1) (into_iter_items l.job-iterator)
+    × All (λ job. IsAt g.V.LockedService.setting g.V.LockedService.covers l.office job.1)
+    (into_iter_items l.job-iterator)

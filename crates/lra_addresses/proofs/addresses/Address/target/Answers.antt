@@ -1,0 +1,14 @@
+use Rattle.std.proofs.Common.{refl}
+use Rattle.lra_addresses.specs.Addresses.{target_of}
+use Rattle.lra_addresses.proofs.AddressFacts.{parse_url-own}
+use Rattle.lra_addresses.proofs.addresses.Address.target.Goals as goal
+
+pub returns : goal.returns
+unfolding target_of
+returns c =
+    rw (
+      c.slice.ensures.value,
+      ← c.self.view_is,
+      parse_url-own c.self.inside.url c.slice.ensures.valid
+          c.self.invariant.scheme,
+    ) refl

@@ -1,2 +1,0 @@
-pub mod Boarded
-pub mod inner

@@ -1,2 +1,0 @@
-pub mod Bearing
-pub mod Laws

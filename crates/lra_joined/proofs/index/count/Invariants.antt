@@ -1,6 +1,0 @@
-use Rattle.std.proofs.Common.{◌≤◌, ℕ, List, length}
-use Rattle.lra_joined.specs.inner.Ranks.{IsList}
-use Rattle.lra_joined.proofs.index.count.Given as goal
-
-abbrev pub invariant-loop-rank : goal.invariant-loop-rank
-invariant-loop-rank l = (ns : List ℕ) → IsList l.numbers l.digest ns → l.rank ≤ length ns

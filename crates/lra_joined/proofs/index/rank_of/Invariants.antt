@@ -1,6 +1,0 @@
-use Rattle.std.proofs.Common.{◌≡◌, ◌<◌, ℕ, Some}
-use Rattle.lra_joined.specs.inner.Ranks.{at}
-use Rattle.lra_joined.proofs.index.rank_of.Given as goal
-
-abbrev pub invariant-loop-rank : goal.invariant-loop-rank
-invariant-loop-rank l = (i : ℕ) → i < l.rank → at l.numbers l.digest i ≡ Some l.number → ⊥

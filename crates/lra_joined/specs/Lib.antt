@@ -1,3 +1,0 @@
-pub mod Digests
-pub mod Listed
-pub mod inner

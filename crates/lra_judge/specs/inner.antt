@@ -1,8 +1,0 @@
--- Words that private functions and proofs alone use.
-pub mod Awaited
-pub mod Judged
-pub mod Listed
-pub mod Stored
-pub mod Telling
-pub mod Told
-pub mod Walks

@@ -1,2 +1,0 @@
-pub mod Sites
-pub mod Laws
