@@ -4,10 +4,9 @@ ghost use Rattle.std.specs.Prelude.{◌≡◌};
 
 use crate::latest::KeySource;
 use crate::told::RefusalListener;
-use lra_front::Routes;
+use lra_front::RoutedRequest;
 use lra_ids::{Base, Instance};
 use lra_steps::{Answered, Handler};
-use lra_wire::RequestRead;
 use std::alloc::Global;
 
 /// Filter that passes on to a handler only the requests that are let in, with a source of the rules that are in force,
@@ -68,20 +67,14 @@ impl<A: Handler, L: KeySource, H: RefusalListener> Handler for AuthenticationFil
         self.inner.instance()
     }
 
-    fn respond(
-        &mut self,
-        alloc: Global,
-        routes: &Routes,
-        moment: u64,
-        request: &RequestRead,
-    ) -> Answered {
+    fn respond(&mut self, alloc: Global, moment: u64, request: &RoutedRequest<'_>) -> Answered {
         self.latest.look(moment);
-        match self.latest.admission().api_error(&request.fields) {
+        match self.latest.admission().api_error(&request.request().fields) {
             Some(api_error) => {
                 self.notifier.denied(api_error);
                 Answered::denied(self.inner.instance(), api_error)
             }
-            None => self.inner.respond(alloc, routes, moment, request),
+            None => self.inner.respond(alloc, moment, request),
         }
     }
 

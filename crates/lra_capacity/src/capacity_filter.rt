@@ -1,18 +1,16 @@
 //! A filter that turns away requests that would begin something in a journal near its end.
 
 ghost use Rattle.std.specs.Prelude.{◌≡◌, IfNone, IfSome};
-ghost use Rattle.lra_wire.specs.Request.{request_of};
 ghost use Rattle.lra_front.specs.Routes.{operation_of};
 ghost use Rattle.lra_capacity.specs.Admitting as spec;
 
 use crate::reserve::CapacitySource;
 use lra_commands::{Refusal, Resource};
-use lra_front::{ApiError, Operation, Routes};
+use lra_front::{ApiError, Operation, RoutedRequest};
 use lra_ids::Base;
 use lra_journal_router::instance_of;
 use lra_model::Instance;
 use lra_steps::{Answered, Handler};
-use lra_wire::RequestRead;
 use std::alloc::Global;
 
 /// Filter of a handler, with the reserve that reports which journals are near their end.
@@ -30,23 +28,20 @@ fn begins_at(operation: Operation) -> bool
 }
 
 /// Returns whether a request begins something.
-fn begins(routes: &Routes, request: &RequestRead) -> bool
-    ensures { result ≡ spec.begins (request_of request.now) }
+fn begins(request: &RoutedRequest<'_>) -> bool
+    ensures { result ≡ spec.begins request.now }
 {
-    match routes.operation(request.method.as_str(), request.target.as_str()) {
+    match request.operation() {
         Ok(operation) => begins_at(operation),
         Err(_) => false,
     }
 }
 
 /// Returns whether a request asks that a member join.
-fn is_join(routes: &Routes, request: &RequestRead) -> bool
-    ensures { result ≡ spec.is_join (operation_of (request_of request.now).method (request_of request.now).target) }
+fn is_join(request: &RoutedRequest<'_>) -> bool
+    ensures { result ≡ spec.is_join (operation_of request.now.method request.now.target) }
 {
-    matches!(
-        routes.operation(request.method.as_str(), request.target.as_str()),
-        Ok(Operation::Join)
-    )
+    matches!(request.operation(), Ok(Operation::Join))
 }
 
 impl<A: Handler, K: CapacitySource> CapacityFilter<A, K> {
@@ -58,15 +53,15 @@ impl<A: Handler, K: CapacitySource> CapacityFilter<A, K> {
     }
 
     /// Returns the API error for a request that is turned away, or nothing if it isn't.
-    fn turned_away(&self, alloc: Global, routes: &Routes, request: &RequestRead) -> Option<Answered>
-        ensures none { IfNone result (spec.IsLet K.tells (request_of request.now)) }
-        ensures some { IfSome result (λ answered. spec.IsTurnedAway K.tells (request_of request.now) answered) }
+    fn turned_away(&self, alloc: Global, request: &RoutedRequest<'_>) -> Option<Answered>
+        ensures none { IfNone result (spec.IsLet K.tells request.now) }
+        ensures some { IfSome result (λ answered. spec.IsTurnedAway K.tells request.now answered) }
     {
-        if !self.reserve.has_any() || !begins(routes, request) {
+        if !self.reserve.has_any() || !begins(request) {
             return None;
         }
-        let (instance, refusal) = match instance_of(alloc, routes, request) {
-            Ok(None) if is_join(routes, request) => return None,
+        let (instance, refusal) = match instance_of(alloc, request) {
+            Ok(None) if is_join(request) => return None,
             Ok(named) => (
                 self.reserve.near_end(named)?,
                 Refusal::Full(Resource::Entries),
@@ -99,16 +94,10 @@ impl<A: Handler, K: CapacitySource> Handler for CapacityFilter<A, K> {
         self.inner.instance()
     }
 
-    fn respond(
-        &mut self,
-        alloc: Global,
-        routes: &Routes,
-        moment: u64,
-        request: &RequestRead,
-    ) -> Answered {
-        match self.turned_away(alloc, routes, request) {
+    fn respond(&mut self, alloc: Global, moment: u64, request: &RoutedRequest<'_>) -> Answered {
+        match self.turned_away(alloc, request) {
             Some(answered) => answered,
-            None => self.inner.respond(alloc, routes, moment, request),
+            None => self.inner.respond(alloc, moment, request),
         }
     }
 

@@ -8,12 +8,13 @@ ghost use Rattle.lra_ids.specs.Identifiers.{id_text, action_uri, recovery_uri};
 ghost use Rattle.lra_wire.specs.Request.{request_of};
 ghost use Rattle.lra_front.specs.Bodies.{addresses_given};
 ghost use Rattle.lra_front.specs.ApiRequests as spec;
+ghost use Rattle.lra_front.specs.Routes.{operation_of};
 ghost use Rattle.lra_front.specs.inner.Finds.{IsFound, is_of_action, is_of_member, OrMemory};
 
 use crate::api_error::ApiError;
 use crate::body::{ending_told, number_under, text_under};
 use crate::operation::Operation;
-use crate::route::{Routes, id_in};
+use crate::route::id_in;
 use lra_commands::{Order, Refusal};
 use lra_ids::{Base, Instance, read_id};
 use lra_model::{Ending, Memory, Uris};
@@ -238,20 +239,18 @@ impl Operation {
     }
 }
 
-impl Routes {
-    /// Returns the API request of a request. It checks the path first, then the method, then the body, then the path's
-    /// identifier, and then the body's. Memory may be refused where the operation reads its body.
-    pub fn api_request(
-        &self,
-        alloc: Global,
-        instance: Instance,
-        base: &Base,
-        request: &RequestRead,
-    ) -> Result<ApiRequest, ApiError>
-        ensures { spec.MayAsk instance base.now (request_of request.now) result }
-    {
-        let operation = self.operation(request.method.as_str(), request.target.as_str())?;
-        let body = operation.read_body(alloc, request.body.as_slice())?;
-        operation.api_request(alloc, instance, base, id_in(request.target.as_str()), &body)
-    }
+/// Returns the API request of a request for the operation that the router found, or why there is none.
+pub(crate) fn read_request(
+    alloc: Global,
+    instance: Instance,
+    base: &Base,
+    found: Result<Operation, ApiError>,
+    request: &RequestRead,
+) -> Result<ApiRequest, ApiError>
+    requires { found ≡ operation_of (request_of request.now).method (request_of request.now).target }
+    ensures { spec.MayAsk instance base.now (request_of request.now) result }
+{
+    let operation = found?;
+    let body = operation.read_body(alloc, request.body.as_slice())?;
+    operation.api_request(alloc, instance, base, id_in(request.target.as_str()), &body)
 }

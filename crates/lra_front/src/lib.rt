@@ -10,6 +10,7 @@ mod operation;
 mod paths;
 mod respond;
 mod route;
+mod routed_request;
 mod stream;
 
 pub use answer::Answer;
@@ -20,4 +21,5 @@ pub use lra_clocks::Clock;
 pub use operation::{Operation, Resource};
 pub use paths::{Path, PathRouter};
 pub use route::{Routes, id_in};
+pub use routed_request::RoutedRequest;
 pub use stream::{Served, StreamEnd, fault_answer, serve_request, serve_stream};

@@ -1,14 +1,18 @@
 //! The effect of one request: its answer, and the order that the counter is given for it.
 
+ghost use Rattle.std.specs.Prelude.{◌≡◌};
 ghost use Rattle.lra_wire.specs.Request.{request_of};
 ghost use Rattle.lra_front.specs.Replies.{HasIdentifiers};
+ghost use Rattle.lra_front.specs.Routes.{operation_of};
 ghost use Rattle.lra_front.specs.Serving.{Answers, Orders, Responds, TellsOf};
 ghost use Rattle.lra_front.specs.inner.Tellable.{IsAnswerable, IsTellable};
 
 use crate::answer::Answer;
 use crate::api_error::ApiError;
-use crate::api_request::ApiRequest;
+use crate::api_request::{ApiRequest, read_request};
+use crate::operation::Operation;
 use crate::route::Routes;
+use crate::routed_request::RoutedRequest;
 use lra_commands::{Counter, CounterFault, Told};
 use lra_wire::RequestRead;
 use std::alloc::Global;
@@ -54,6 +58,29 @@ fn answer(api_request: &ApiRequest, reply: Result<Told, CounterFault>) -> Answer
     }
 }
 
+/// Answers a request for the operation that the router found, at a moment. Returns also whether the counter was given
+/// an order.
+fn respond_for<C: Counter>(
+    alloc: Global,
+    counter: &mut C,
+    moment: u64,
+    found: Result<Operation, ApiError>,
+    request: &RequestRead,
+) -> (Answer, bool)
+    requires { found ≡ operation_of (request_of request.now).method (request_of request.now).target }
+    ensures orders { Orders C.gives (C.sight counter.old) moment (request_of request.now) (C.sight counter.new)
+        result.0 result.1 }
+    ensures identifiers { HasIdentifiers result.0 }
+{
+    match read_request(alloc, counter.instance(), counter.base(), found, request) {
+        Ok(api_request) => {
+            let reply = counter.give(moment, &api_request.order());
+            (answer(&api_request, reply), true)
+        }
+        Err(api_error) => (Answer::Denied(api_error), false),
+    }
+}
+
 impl Routes {
     /// Answers a request at a moment. It gives the counter at most one order.
     pub fn respond<C: Counter>(
@@ -68,28 +95,23 @@ impl Routes {
         // The answer's numbers are those that identifiers can have.
         ensures identifiers { HasIdentifiers result }
     {
-        let (answer, _) = self.respond_ordered(alloc, counter, moment, request);
+        let found = self.operation(request.method.as_str(), request.target.as_str());
+        let (answer, _) = respond_for(alloc, counter, moment, found, request);
         answer
     }
+}
 
-    /// Answers a request at a moment as `respond` does. Returns also whether the counter was given an order.
+impl<'r> RoutedRequest<'r> {
+    /// Answers the request at a moment as `Routes::respond` does. Returns also whether the counter was given an order.
     pub fn respond_ordered<C: Counter>(
         &self,
         alloc: Global,
         counter: &mut C,
         moment: u64,
-        request: &RequestRead,
     ) -> (Answer, bool)
-        ensures orders { Orders C.gives (C.sight counter.old) moment (request_of request.now)
-            (C.sight counter.new) result.0 result.1 }
+        ensures orders { Orders C.gives (C.sight counter.old) moment self.now (C.sight counter.new) result.0 result.1 }
         ensures identifiers { HasIdentifiers result.0 }
     {
-        match self.api_request(alloc, counter.instance(), counter.base(), request) {
-            Ok(api_request) => {
-                let reply = counter.give(moment, &api_request.order());
-                (answer(&api_request, reply), true)
-            }
-            Err(api_error) => (Answer::Denied(api_error), false),
-        }
+        respond_for(alloc, counter, moment, self.operation(), self.request())
     }
 }

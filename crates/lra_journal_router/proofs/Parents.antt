@@ -7,7 +7,7 @@ use Rattle.std.proofs.lemmas.Str.{is_utf8-from_IsUtf8, IsUtf8-from_is_utf8}
 use Rattle.serde_json.specs.Data.{Data, null, boolean, number, string, array, object}
 use Rattle.serde_json.specs.Read.{read}
 use Rattle.serde_json.specs.Find.{get, as_str, as_object}
-use Rattle.lra_instances.specs.Bearing.{instance_at_end}
+use Rattle.lra_ids.specs.Bearing.{instance_at_end}
 use Rattle.lra_front.specs.Bodies.{object_in}
 use Rattle.lra_journal_router.specs.Naming.{parent_of, parent_in}
 

@@ -5,8 +5,8 @@ use Rattle.std.specs.Prelude.{codes, unwrap_or, MatchOption}
 use Rattle.std.specs.Result.{MatchResult}
 use Rattle.serde_json.specs.Data.{Members}
 use Rattle.lra_ids.specs.Identifiers.{id_text, action_uri, recovery_uri, IsSpelling}
-use Rattle.lra_instances.specs.Bearing.{instance_in, instance_at_end}
-use Rattle.lra_instances.proofs.Bearings.{read_whole, read_end}
+use Rattle.lra_ids.specs.Bearing.{instance_in, instance_at_end}
+use Rattle.lra_ids.proofs.Bearings.{read_whole, read_end}
 use Rattle.lra_wire.specs.Request.{Request}
 use Rattle.lra_model.specs.Words.{when}
 use Rattle.lra_commands.specs.declared.refusal.Refusal.TheVariants as refusal

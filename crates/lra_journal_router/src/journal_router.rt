@@ -26,7 +26,6 @@ ghost use Rattle.lra_front.specs.declared.answer.Answer.TheVariants as answer;
 ghost use Rattle.lra_front.specs.Replies.{HasIdentifiers};
 ghost use Rattle.lra_journal_sets.specs.JournalSets as spec;
 ghost use Rattle.lra_journal_sets.specs.JournalSets.{Joins, Leaves};
-ghost use Rattle.lra_wire.specs.Request.{request_of};
 ghost use Rattle.lra_journal_router.specs.JournalRouters.{base_of, HaveBase, KeepsBase, Moved, Outcome};
 ghost use Rattle.lra_journal_router.specs.Naming.{instance_of as spec_instance_of};
 ghost use Rattle.lra_journal_router.specs.Waiting.{IsAstray, IsPutOff, IsSure, is_start};
@@ -34,12 +33,11 @@ ghost use Rattle.lra_journal_router.specs.Waiting.{IsAstray, IsPutOff, IsSure, i
 use crate::naming::instance_of;
 use crate::serving;
 use lra_commands::{Counter, Refusal, Session};
-use lra_front::{ApiError, Operation, Routes};
+use lra_front::{ApiError, Operation, RoutedRequest};
 use lra_ids::Base;
 use lra_journal_sets::JournalSet;
 use lra_model::Instance;
 use lra_steps::{Answered, Handler};
-use lra_wire::RequestRead;
 use std::alloc::Global;
 
 /// Membership of a journal set: it reports which counters are in the journal set at present.
@@ -118,13 +116,10 @@ pub fn remove_member<C: Counter + Drop>(
 }
 
 /// Returns whether a request starts an action.
-fn starts(routes: &Routes, request: &RequestRead) -> bool
-    ensures { result ≡ is_start (request_of request.now) }
+fn starts(request: &RoutedRequest<'_>) -> bool
+    ensures { result ≡ is_start request.now }
 {
-    matches!(
-        routes.operation(request.method.as_str(), request.target.as_str()),
-        Ok(Operation::Start)
-    )
+    matches!(request.operation(), Ok(Operation::Start))
 }
 
 /// Returns whether the membership reports that the journal set may lack the counter for a request. That is the counter
@@ -151,23 +146,22 @@ fn is_lacked<C: Counter + Drop, K: Membership<C>>(
 /// `newest` is the journal set's newest instance.
 fn put_off<C: Counter + Drop, K: Membership<C>>(
     alloc: Global,
-    routes: &Routes,
     journal_set: &JournalSet<C>,
     membership: &K,
     newest: Instance,
-    request: &RequestRead,
+    request: &RoutedRequest<'_>,
 ) -> Option<Answered>
     requires { newest ≡ spec.newest name journal_set.now }
-    ensures none { IfNone result (IsSure K.tells journal_set.now (request_of request.now)) }
-    ensures some { IfSome result (IsPutOff K.tells journal_set.now (request_of request.now)) }
+    ensures none { IfNone result (IsSure K.tells journal_set.now request.now) }
+    ensures some { IfSome result (IsPutOff K.tells journal_set.now request.now) }
 {
     if !membership.lacks_any() {
         return None;
     }
-    let Ok(named) = instance_of(alloc, routes, request) else {
+    let Ok(named) = instance_of(alloc, request) else {
         return Some(Answered::denied(newest, ApiError::Refused(Refusal::Memory)));
     };
-    if !is_lacked(journal_set, membership, starts(routes, request), &named) {
+    if !is_lacked(journal_set, membership, starts(request), &named) {
         return None;
     }
     Some(Answered::denied(named.unwrap_or(newest), ApiError::Refused(Refusal::Stopped)))
@@ -178,25 +172,24 @@ fn put_off<C: Counter + Drop, K: Membership<C>>(
 #[tactic(auto, using(crate::proofs::Waiting::put_off_whose, crate::proofs::Waiting::put_off_journal, crate::proofs::Waiting::put_off_bears))]
 fn respond_at<C: Session + Drop, K: Membership<C>>(
     alloc: Global,
-    routes: &Routes,
     journal_set: &mut JournalSet<C>,
     membership: &K,
     moment: u64,
-    request: &RequestRead,
+    request: &RoutedRequest<'_>,
 ) -> Answered
-    ensures serves { Outcome K.tells C.sight C.covers C.gives journal_set.old moment (request_of request.now) result
+    ensures serves { Outcome K.tells C.sight C.covers C.gives journal_set.old moment request.now result
         journal_set.new }
     ensures instance { result.answer ≢ answer.Denied (api_error.Refused reason.Memory)
-        → result.instance ≡ unwrap_or (spec_instance_of (request_of request.now)) (spec.newest name journal_set.old) }
+        → result.instance ≡ unwrap_or (spec_instance_of request.now) (spec.newest name journal_set.old) }
     ensures journal { IsSome result.position
-        → result.instance ≡ unwrap_or (spec_instance_of (request_of request.now)) (spec.newest name journal_set.old) }
+        → result.instance ≡ unwrap_or (spec_instance_of request.now) (spec.newest name journal_set.old) }
     ensures identifiers { HasIdentifiers result.answer }
     ensures journal_set { spec.IsJournalSet (map name journal_set.old) }
 {
     let newest = journal_set.newest();
-    match put_off(alloc, routes, journal_set, membership, newest, request) {
+    match put_off(alloc, journal_set, membership, newest, request) {
         Some(answered) => answered,
-        None => serving::respond(alloc, routes, journal_set, moment, request),
+        None => serving::respond(alloc, journal_set, moment, request),
     }
 }
 
@@ -252,17 +245,10 @@ impl<C: Session + Drop, K: Membership<C>> Handler for JournalRouter<C, K> {
         self.journal_set.newest()
     }
 
-    fn respond(
-        &mut self,
-        alloc: Global,
-        routes: &Routes,
-        moment: u64,
-        request: &RequestRead,
-    ) -> Answered {
+    fn respond(&mut self, alloc: Global, moment: u64, request: &RoutedRequest<'_>) -> Answered {
         self.membership.look(&mut self.journal_set);
         respond_at(
             alloc,
-            routes,
             &mut self.journal_set,
             &self.membership,
             moment,

@@ -7,8 +7,8 @@ ghost use Rattle.lra_wire.specs.Request.{request_of};
 ghost use Rattle.lra_front.specs.ApiRequests.{LacksMemory};
 ghost use Rattle.lra_journal_router.specs.Naming as spec;
 
-use lra_front::{Operation, Routes, id_in};
-use lra_instances::{instance_at_end, instance_in};
+use lra_front::{Operation, RoutedRequest, id_in};
+use lra_ids::{instance_at_end, instance_in};
 use lra_model::{Instance, Memory};
 use lra_wire::RequestRead;
 use serde_json::Value;
@@ -56,16 +56,12 @@ fn named_at(
 
 /// Returns the instance that a request names: by the identifier in its path, or by the parent in the body of a start.
 /// Reading that body may be refused memory.
-pub fn instance_of(
-    alloc: Global,
-    routes: &Routes,
-    request: &RequestRead,
-) -> Result<Option<Instance>, Memory>
-    ensures ok { IfOk result (λ named. named ≡ spec.instance_of (request_of request.now)) }
-    ensures err { OnErr result (LacksMemory (request_of request.now)) }
+pub fn instance_of(alloc: Global, request: &RoutedRequest<'_>) -> Result<Option<Instance>, Memory>
+    ensures ok { IfOk result (λ named. named ≡ spec.instance_of request.now) }
+    ensures err { OnErr result (LacksMemory request.now) }
 {
-    match routes.operation(request.method.as_str(), request.target.as_str()) {
-        Ok(operation) => named_at(alloc, operation, request),
+    match request.operation() {
+        Ok(operation) => named_at(alloc, operation, request.request()),
         Err(_) => Ok(None),
     }
 }

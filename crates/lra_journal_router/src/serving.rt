@@ -1,7 +1,6 @@
 //! The effect of one request at a journal set.
 
 ghost use Rattle.std.specs.Prelude.{◌≡◌, ◌≢◌, map, unwrap_or, IsSome};
-ghost use Rattle.lra_wire.specs.Request.{request_of};
 ghost use Rattle.lra_commands.specs.declared.refusal.Refusal.TheVariants as refusal;
 ghost use Rattle.lra_front.specs.declared.api_error.ApiError.TheVariants as api_error;
 ghost use Rattle.lra_front.specs.declared.answer.Answer.TheVariants as answer;
@@ -15,36 +14,33 @@ ghost use Rattle.lra_journal_router.specs.inner.Stays.{Visits};
 
 use crate::naming;
 use lra_commands::{Refusal, Session};
-use lra_front::{ApiError, Routes};
+use lra_front::{ApiError, RoutedRequest};
 use lra_journal_sets::{JournalSet, Visit};
 use lra_model::Instance;
 use lra_steps::{Answered, Handler};
-use lra_wire::RequestRead;
 use std::alloc::Global;
 
 /// Request that is answered at a moment.
 #[derive(Drop)]
 struct TimedRequest<'a> {
     alloc: Global,
-    routes: &'a Routes,
     moment: u64,
-    request: &'a RequestRead,
+    request: &'a RoutedRequest<'a>,
 }
 
 impl<'a, C: Session> Visit<C> for TimedRequest<'a> {
-    ghost use Rattle.lra_wire.specs.Request.{request_of};
     ghost use Rattle.lra_journal_router.specs.inner.Stays.{Answers, answers_stay};
 
     type Answer = Answered;
 
     ghost does = { λ v before answered after.
-        Answers C.sight C.covers C.gives before v.moment (request_of v.request.now) answered after };
+        Answers C.sight C.covers C.gives before v.moment v.request.now answered after };
 
     ghost keeps = { λ v before after answered h.
-        answers_stay C.sight C.covers C.gives C.keeps before after v.moment (request_of v.request.now) answered h };
+        answers_stay C.sight C.covers C.gives C.keeps before after v.moment v.request.now answered h };
 
     fn visit(&self, counter: &mut C) -> Answered {
-        counter.respond(self.alloc, self.routes, self.moment, self.request)
+        counter.respond(self.alloc, self.moment, self.request)
     }
 }
 
@@ -54,7 +50,7 @@ fn visit<C: Session + Drop>(
     instance: Instance,
     responding: &TimedRequest<'_>,
 ) -> Option<Answered>
-    ensures { Visits C.sight C.covers C.gives instance responding.now.moment (request_of responding.now.request.now)
+    ensures { Visits C.sight C.covers C.gives instance responding.now.moment responding.now.request.now
         result journal_set.old journal_set.new }
 {
     journal_set.visit(instance, responding)
@@ -69,9 +65,9 @@ fn answer<C: Session + Drop>(
 ) -> Answered
     requires newest { newest ≡ spec.newest name journal_set.old }
     requires journal_set { IsJournalSet (map name journal_set.old) }
-    requires instance { instance ≡ unwrap_or (instance_of (request_of responding.now.request.now)) newest }
+    requires instance { instance ≡ unwrap_or (instance_of responding.now.request.now) newest }
     ensures serves { ServesOrdered C.sight C.covers C.gives journal_set.old (record {
-      request = request_of responding.now.request.now;
+      request = responding.now.request.now;
       moment = responding.now.moment;
       answered = result;
     }) journal_set.new }
@@ -91,32 +87,30 @@ fn answer<C: Session + Drop>(
 /// doesn't know the identifier either: no order is given then, and the answer has no position.
 pub fn respond<C: Session + Drop>(
     alloc: Global,
-    routes: &Routes,
     journal_set: &mut JournalSet<C>,
     moment: u64,
-    request: &RequestRead,
+    request: &RoutedRequest<'_>,
 ) -> Answered
     ensures serves { ServesOrdered C.sight C.covers C.gives journal_set.old
-        (record { request = request_of request.now; moment = moment; answered = result }) journal_set.new }
+        (record { request = request.now; moment = moment; answered = result }) journal_set.new }
     // The answer names the instance that the request names, unless memory was refused.
     ensures instance { result.answer ≢ answer.Denied (api_error.Refused refusal.Memory)
-        → result.instance ≡ unwrap_or (instance_of (request_of request.now)) (spec.newest name journal_set.old) }
+        → result.instance ≡ unwrap_or (instance_of request.now) (spec.newest name journal_set.old) }
     // The answer's position is one in the journal that the request names.
     ensures journal { IsSome result.position
-        → result.instance ≡ unwrap_or (instance_of (request_of request.now)) (spec.newest name journal_set.old) }
+        → result.instance ≡ unwrap_or (instance_of request.now) (spec.newest name journal_set.old) }
     // The answer's numbers are those that identifiers can have.
     ensures identifiers { HasIdentifiers result.answer }
     // The journal set has a newest member.
     ensures journal_set { IsJournalSet (map name journal_set.old) }
 {
     let newest = journal_set.newest();
-    let Ok(named) = naming::instance_of(alloc, routes, request) else {
+    let Ok(named) = naming::instance_of(alloc, request) else {
         return Answered::denied(newest, ApiError::Refused(Refusal::Memory));
     };
     let instance = named.unwrap_or(newest);
     let responding = TimedRequest {
         alloc,
-        routes,
         moment,
         request,
     };

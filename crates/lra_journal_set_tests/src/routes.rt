@@ -1,7 +1,7 @@
 //! Each route, with an identifier of the older member, of the newer and of neither.
 
 use crate::counter::{Counting, NEWER, OLDER, journal_set, orders_of};
-use lra_front::{Answer, Routes};
+use lra_front::{Answer, RoutedRequest, Routes};
 use lra_journal_router::respond;
 use lra_journal_sets::JournalSet;
 use lra_steps::Answered;
@@ -94,7 +94,7 @@ fn answered(
     journal_set: &mut JournalSet<Counting>,
     request: &RequestRead,
 ) -> Answered {
-    respond(alloc, routes, journal_set, 5, request)
+    respond(alloc, journal_set, 5, &RoutedRequest::new(routes, request))
 }
 
 /// Returns whether the members were given as many orders as two digits say.

@@ -1,17 +1,15 @@
 //! A filter that refuses joins outside the rules.
 
 ghost use Rattle.std.specs.Prelude.{◌≡◌, false, IfNone, IfSome};
-ghost use Rattle.lra_wire.specs.Request.{request_of};
 ghost use Rattle.lra_member_rules.specs.Ruling as spec;
 
 use crate::bodies::is_outside;
 use lra_commands::Refusal;
-use lra_front::{ApiError, Operation, Routes};
+use lra_front::{ApiError, Operation, RoutedRequest};
 use lra_ids::Base;
 use lra_model::Instance;
 use lra_rules::Rules;
 use lra_steps::{Answered, Handler};
-use lra_wire::RequestRead;
 use std::alloc::Global;
 
 /// Filter of a handler, with the rules for where members may be.
@@ -22,29 +20,21 @@ pub struct MemberRulesFilter<'r, A> {
 }
 
 /// Returns whether a request asks to join.
-fn is_join(routes: &Routes, request: &RequestRead) -> bool
-    ensures { result ≡ spec.is_join (request_of request.now) }
+fn is_join(request: &RoutedRequest<'_>) -> bool
+    ensures { result ≡ spec.is_join request.now }
 {
-    matches!(
-        routes.operation(request.method.as_str(), request.target.as_str()),
-        Ok(Operation::Join)
-    )
+    matches!(request.operation(), Ok(Operation::Join))
 }
 
 /// Returns why a request is refused, if it is.
-fn refusal_of(
-    alloc: Global,
-    routes: &Routes,
-    rules: &Rules,
-    request: &RequestRead,
-) -> Option<Refusal>
-    ensures none { IfNone result (spec.is_outside rules.now (request_of request.now) ≡ false) }
-    ensures some { IfSome result (spec.IsRefusedBy rules.now (request_of request.now)) }
+fn refusal_of(alloc: Global, rules: &Rules, request: &RoutedRequest<'_>) -> Option<Refusal>
+    ensures none { IfNone result (spec.is_outside rules.now request.now ≡ false) }
+    ensures some { IfSome result (spec.IsRefusedBy rules.now request.now) }
 {
-    if rules.is_empty() || !is_join(routes, request) {
+    if rules.is_empty() || !is_join(request) {
         return None;
     }
-    match is_outside(alloc, rules, request.body.as_slice()) {
+    match is_outside(alloc, rules, request.request().body.as_slice()) {
         Ok(true) => Some(Refusal::BadAddresses),
         Ok(false) => None,
         Err(_) => Some(Refusal::Memory),
@@ -91,16 +81,10 @@ impl<A: Handler> Handler for MemberRulesFilter<'_, A> {
         self.inner.instance()
     }
 
-    fn respond(
-        &mut self,
-        alloc: Global,
-        routes: &Routes,
-        moment: u64,
-        request: &RequestRead,
-    ) -> Answered {
-        match refusal_of(alloc, routes, self.rules, request) {
+    fn respond(&mut self, alloc: Global, moment: u64, request: &RoutedRequest<'_>) -> Answered {
+        match refusal_of(alloc, self.rules, request) {
             Some(refusal) => { Answered::denied(self.inner.instance(), ApiError::Refused(refusal)) }
-            None => self.inner.respond(alloc, routes, moment, request),
+            None => self.inner.respond(alloc, moment, request),
         }
     }
 

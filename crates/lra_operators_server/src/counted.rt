@@ -4,10 +4,9 @@ ghost use Rattle.std.specs.Prelude.{◌≡◌};
 
 use crate::tallies::Tallies;
 use lra_commands::Refusal;
-use lra_front::{Answer, ApiError, Routes};
+use lra_front::{Answer, ApiError, RoutedRequest};
 use lra_ids::{Base, Instance};
 use lra_steps::{Answered, Handler};
-use lra_wire::RequestRead;
 use std::alloc::Global;
 use std::time::{Clock, Instant};
 
@@ -64,20 +63,15 @@ impl<A: Handler, R: Clock> Handler for CountingHandler<'_, A, R> {
         self.inner.instance()
     }
 
-    fn respond(
-        &mut self,
-        alloc: Global,
-        routes: &Routes,
-        moment: u64,
-        request: &RequestRead,
-    ) -> Answered {
+    fn respond(&mut self, alloc: Global, moment: u64, request: &RoutedRequest<'_>) -> Answered {
         let began = Instant::now(self.rt).ok();
-        let answered = self.inner.respond(alloc, routes, moment, request);
-        let operation = routes
-            .operation(request.method.as_str(), request.target.as_str())
-            .ok();
-        self.tallies
-            .add_request(self.rt, operation, answered.answer.status(), began);
+        let answered = self.inner.respond(alloc, moment, request);
+        self.tallies.add_request(
+            self.rt,
+            request.operation().ok(),
+            answered.answer.status(),
+            began,
+        );
         if has_stopped(answered.answer) {
             self.tallies.stop(answered.instance);
         }

@@ -10,7 +10,7 @@ use Rattle.lra_rewrite.specs.inner.Made.{meant_by}
 
 -- a request of which this holds is answered, or memory was refused for that reason
 pub asked : {S E : Type 0} (responds : S → ℕ → Request → Answered → S → Type 0) (is_meant : Request → Type 0)
-    (reason : Type 0) (before : S) (moment : ℕ) (own : RequestRead) (made : Result (Option RequestRead) E)
+    (reason : Type 0) (before : S) (moment : ℕ) (own : Request) (made : Result (Option RequestRead) E)
     (answered : Answered) (after : S) → IfOk made (λ other. is_meant (meant_by own other)) → OnErr made reason
     → Asks responds before moment own made answered after
     → AnswersSome responds is_meant before moment answered after ⊎ LacksSome reason before answered after

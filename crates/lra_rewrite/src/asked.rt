@@ -5,7 +5,7 @@ ghost use Rattle.lra_front.specs.Replies.{HasIdentifiers};
 ghost use Rattle.lra_rewrite.specs.inner.Asks.{Asks};
 
 use lra_commands::Refusal;
-use lra_front::{ApiError, Routes};
+use lra_front::{ApiError, RoutedRequest};
 use lra_model::Memory;
 use lra_steps::{Answered, Handler};
 use lra_wire::RequestRead;
@@ -16,9 +16,8 @@ use std::alloc::Global;
 pub(crate) fn ask<A: Handler>(
     inner: &mut A,
     alloc: Global,
-    routes: &Routes,
     moment: u64,
-    request: &RequestRead,
+    request: &RoutedRequest<'_>,
     meant: Result<Option<RequestRead>, Memory>,
 ) -> Answered
     ensures asks { Asks A.responds (A.sight inner.old) moment request.now meant result (A.sight inner.new) }
@@ -26,11 +25,11 @@ pub(crate) fn ask<A: Handler>(
 {
     match meant {
         Ok(Some(meant)) => {
-            let answered = inner.respond(alloc, routes, moment, &meant);
+            let answered = inner.respond(alloc, moment, &request.with(&meant));
             drop(meant);
             answered
         }
-        Ok(None) => inner.respond(alloc, routes, moment, request),
+        Ok(None) => inner.respond(alloc, moment, request),
         Err(_) => Answered::denied(inner.instance(), ApiError::Refused(Refusal::Memory)),
     }
 }

@@ -4,10 +4,9 @@ ghost use Rattle.std.specs.Prelude.{◌≡◌};
 
 use crate::asked::ask;
 use crate::limits::limited_request;
-use lra_front::Routes;
+use lra_front::RoutedRequest;
 use lra_ids::{Base, Instance};
 use lra_steps::{Answered, Handler};
-use lra_wire::RequestRead;
 use std::alloc::Global;
 
 /// Filter that passes to a handler what each request means under a default limit: a start that gives no limit means the
@@ -58,15 +57,9 @@ impl<A: Handler> Handler for DefaultLimitFilter<A> {
         self.inner.instance()
     }
 
-    fn respond(
-        &mut self,
-        alloc: Global,
-        routes: &Routes,
-        moment: u64,
-        request: &RequestRead,
-    ) -> Answered {
-        let meant = limited_request(alloc, routes, self.limit, request);
-        ask(&mut self.inner, alloc, routes, moment, request, meant)
+    fn respond(&mut self, alloc: Global, moment: u64, request: &RoutedRequest<'_>) -> Answered {
+        let meant = limited_request(alloc, self.limit, request);
+        ask(&mut self.inner, alloc, moment, request, meant)
     }
 
     fn on_idle(&mut self) {

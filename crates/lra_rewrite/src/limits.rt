@@ -1,11 +1,7 @@
 //! Starts that give no limit, and mean the default limit.
 
-ghost use Rattle.std.specs.Prelude.{◌≡◌, codes, is_none, IsTrue, IfOk, OnErr};
-ghost use Rattle.std.specs.Option.{option_map_or};
-ghost use Rattle.serde_json.specs.Find.{as_object, get_member};
+ghost use Rattle.std.specs.Prelude.{◌≡◌, IsTrue, IfOk, OnErr};
 ghost use Rattle.serde_json.specs.View.{view};
-ghost use Rattle.lra_wire.specs.Request.{request_of};
-ghost use Rattle.lra_front.specs.Routes.{operation_of};
 ghost use Rattle.lra_rewrite.specs.Limits as spec;
 ghost use Rattle.lra_rewrite.specs.inner.Found.{IsOther};
 ghost use Rattle.lra_rewrite.specs.inner.Limited.{lacks_limit};
@@ -13,21 +9,17 @@ ghost use Rattle.lra_rewrite.specs.inner.Made.{meant_by};
 
 use crate::bodies::{body_with, value_in};
 use crate::requests::with_parts;
-use lra_front::{Operation, Routes};
+use lra_front::{Operation, RoutedRequest};
 use lra_model::Memory;
 use lra_wire::RequestRead;
 use serde_json::Value;
 use std::alloc::Global;
 
 /// Returns whether a request is a start, and there is a default limit.
-fn may_mean(routes: &Routes, limit: u64, request: &RequestRead) -> bool
-    ensures { result ≡ spec.may_mean limit (request_of request.now) }
+fn may_mean(limit: u64, request: &RoutedRequest<'_>) -> bool
+    ensures { result ≡ spec.may_mean limit request.now }
 {
-    limit != 0
-        && matches!(
-            routes.operation(request.method.as_str(), request.target.as_str()),
-            Ok(Operation::Start)
-        )
+    limit != 0 && matches!(request.operation(), Ok(Operation::Start))
 }
 
 /// Returns whether a value is an object that gives no limit.
@@ -55,18 +47,17 @@ fn limited_at(alloc: Global, limit: u64, body: &[u8]) -> Result<Option<String>, 
 /// Returns the request that a request means under a default limit, if that isn't itself. If it is, nothing is copied.
 pub(crate) fn limited_request(
     alloc: Global,
-    routes: &Routes,
     limit: u64,
-    request: &RequestRead,
+    request: &RoutedRequest<'_>,
 ) -> Result<Option<RequestRead>, Memory>
-    ensures ok { IfOk result (λ other. spec.MeansLimited limit (request_of request.now) (meant_by request.now other)) }
-    ensures err { OnErr result (IsTrue (spec.may_mean limit (request_of request.now))) }
+    ensures ok { IfOk result (λ other. spec.MeansLimited limit request.now (meant_by request.now other)) }
+    ensures err { OnErr result (IsTrue (spec.may_mean limit request.now)) }
 {
-    if !may_mean(routes, limit, request) {
+    if !may_mean(limit, request) {
         return Ok(None);
     }
-    match limited_at(alloc, limit, request.body.as_slice())? {
-        Some(body) => Ok(Some(with_parts(alloc, request, None, Some(body))?)),
+    match limited_at(alloc, limit, request.request().body.as_slice())? {
+        Some(body) => Ok(Some(with_parts(alloc, request.request(), None, Some(body))?)),
         None => Ok(None),
     }
 }

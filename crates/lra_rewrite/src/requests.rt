@@ -8,7 +8,7 @@ ghost use Rattle.lra_rewrite.specs.inner.Made.{with_others, meant_by};
 use crate::bodies::other_body;
 use crate::bytes::{bytes_or, text_or};
 use crate::paths::other_target;
-use lra_front::Routes;
+use lra_front::RoutedRequest;
 use lra_ids::Base;
 use lra_model::Memory;
 use lra_wire::RequestRead;
@@ -47,18 +47,16 @@ pub(crate) fn with_parts(
 /// Returns the request that a request means, if that isn't itself. If it is, nothing is copied.
 pub(crate) fn other_request(
     alloc: Global,
-    routes: &Routes,
     base: &Base,
     olders: &[Base],
-    request: &RequestRead,
+    routed: &RoutedRequest<'_>,
 ) -> Result<Option<RequestRead>, Memory>
-    ensures ok { IfOk result (λ other. spec.Means base.now olders.now (request_of request.now)
-        (meant_by request.now other)) }
-    ensures err { OnErr result (spec.LacksMemory base.now olders.now (request_of request.now)) }
+    ensures ok { IfOk result (λ other. spec.Means base.now olders.now routed.now (meant_by routed.now other)) }
+    ensures err { OnErr result (spec.LacksMemory base.now olders.now routed.now) }
 {
+    let request = routed.request();
     let target = other_target(alloc, base.as_str(), request.target.as_str())?;
-    let meant = text_of(&target, request.target.as_str());
-    let operation = routes.operation(request.method.as_str(), meant);
+    let operation = routed.operation_at(text_of(&target, request.target.as_str()));
     let body = other_body(
         alloc,
         base.as_str(),

@@ -5,10 +5,9 @@ ghost use Rattle.std.specs.Prelude.{◌≡◌};
 use crate::asked::ask;
 use crate::paths::is_outside;
 use crate::requests::other_request;
-use lra_front::{ApiError, Routes};
+use lra_front::{ApiError, RoutedRequest};
 use lra_ids::{Base, Instance};
 use lra_steps::{Answered, Handler};
-use lra_wire::RequestRead;
 use std::alloc::Global;
 
 /// Filter that passes to a handler what each request means: behind a proxy that passes the path of the base on, and by
@@ -72,19 +71,13 @@ impl<A: Handler> Handler for RewriteFilter<A> {
         self.inner.instance()
     }
 
-    fn respond(
-        &mut self,
-        alloc: Global,
-        routes: &Routes,
-        moment: u64,
-        request: &RequestRead,
-    ) -> Answered {
+    fn respond(&mut self, alloc: Global, moment: u64, request: &RoutedRequest<'_>) -> Answered {
         let base = self.inner.base();
-        if self.is_strict && is_outside(base.as_str(), request.target.as_str()) {
+        if self.is_strict && is_outside(base.as_str(), request.request().target.as_str()) {
             return Answered::denied(self.inner.instance(), ApiError::NoSuchPath);
         }
-        let meant = other_request(alloc, routes, base, self.olders.as_slice(), request);
-        ask(&mut self.inner, alloc, routes, moment, request, meant)
+        let meant = other_request(alloc, base, self.olders.as_slice(), request);
+        ask(&mut self.inner, alloc, moment, request, meant)
     }
 
     fn on_idle(&mut self) {

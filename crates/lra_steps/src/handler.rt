@@ -1,14 +1,12 @@
 //! Handlers, which answer requests.
 
 ghost use Rattle.std.specs.Prelude.{◌≡◌};
-ghost use Rattle.lra_wire.specs.Request.{request_of};
 ghost use Rattle.lra_front.specs.Replies.{HasIdentifiers};
 ghost use Rattle.lra_steps.specs.Positions.{denied};
 
 use lra_commands::{Counter, Session};
-use lra_front::{Answer, ApiError, Routes};
+use lra_front::{Answer, ApiError, RoutedRequest};
 use lra_ids::{Base, Instance};
-use lra_wire::RequestRead;
 use std::alloc::Global;
 
 /// Answer to a request, and the position in a journal that it depends on.
@@ -69,14 +67,8 @@ pub trait Handler {
     fn instance(&self) -> Instance;
 
     /// Answers a request at a moment, in milliseconds.
-    fn respond(
-        &mut self,
-        alloc: Global,
-        routes: &Routes,
-        moment: u64,
-        request: &RequestRead,
-    ) -> Answered
-        ensures responds { responds (sight self.old) moment (request_of request.now) result (sight self.new) }
+    fn respond(&mut self, alloc: Global, moment: u64, request: &RoutedRequest<'_>) -> Answered
+        ensures responds { responds (sight self.old) moment request.now result (sight self.new) }
         // The answer's numbers are those that identifiers can have.
         ensures identifiers { HasIdentifiers result.answer };
 
@@ -117,15 +109,9 @@ impl<C: Session> Handler for C {
         Counter::instance(self)
     }
 
-    fn respond(
-        &mut self,
-        alloc: Global,
-        routes: &Routes,
-        moment: u64,
-        request: &RequestRead,
-    ) -> Answered {
+    fn respond(&mut self, alloc: Global, moment: u64, request: &RoutedRequest<'_>) -> Answered {
         let instance = Counter::instance(self);
-        let (answer, is_ordered) = routes.respond_ordered(alloc, self, moment, request);
+        let (answer, is_ordered) = request.respond_ordered(alloc, self, moment);
         let position = if is_ordered {
             Some(Session::position(self))
         } else {

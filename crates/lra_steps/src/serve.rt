@@ -1,5 +1,7 @@
 //! Callers of connections: one answers the request that stands, and one serves pieces of bytes in place of a socket.
 ghost use Rattle.std.specs.Prelude.{◌≡◌, ℕ, ◌++◌, flat_map, length, None, IfOk, IfSome, IsSome, OnOk};
+ghost use Rattle.lra_wire.specs.Request.{request_of};
+ghost use Rattle.lra_front.specs.Replies.{HasIdentifiers};
 ghost use Rattle.lra_steps.specs.History.{went};
 ghost use Rattle.lra_steps.specs.Pieces.{Answers, Serves, ServesBytes};
 ghost use Rattle.lra_steps.specs.inner.Feeding.{Follows, Fed, IsFresh};
@@ -7,10 +9,25 @@ ghost use Rattle.lra_steps.specs.inner.Feeding.{Follows, Fed, IsFresh};
 use crate::connection::{Connection, Step};
 use crate::handler::{Answered, Handler};
 use lra_commands::Session;
-use lra_front::{Clock, Routes, StreamEnd};
+use lra_front::{Clock, RoutedRequest, Routes, StreamEnd};
 use lra_ids::Instance;
 use lra_model::Memory;
+use lra_wire::RequestRead;
 use std::alloc::Global;
+
+/// Answers a request at a moment. The router is asked here which operation the request asks for.
+fn respond<A: Handler>(
+    alloc: Global,
+    routes: &Routes,
+    handler: &mut A,
+    moment: u64,
+    request: &RequestRead,
+) -> Answered
+    ensures responds { A.responds (A.sight handler.old) moment (request_of request.now) result (A.sight handler.new) }
+    ensures identifiers { HasIdentifiers result.answer }
+{
+    handler.respond(alloc, moment, &RoutedRequest::new(routes, request))
+}
 
 /// Answers the request that stands, at the moment that the clock returns. Returns the answer. Where memory for the
 /// reply is refused, what the request did stays done, and the connection ends.
@@ -30,7 +47,7 @@ pub fn answer_request<A: Handler, K: Clock>(
     let Some(request) = connection.request() else {
         unreachable!();
     };
-    let answered = handler.respond(alloc, routes, moment, request);
+    let answered = respond(alloc, routes, handler, moment, request);
     // Where the reply is lost, the connection's next step says so.
     let reply = answered;
     let _ = connection.push_reply(handler.base(), moment, reply);

@@ -4,8 +4,8 @@ use Rattle.lra_wire.specs.declared.request.RequestRead.{RequestRead}
 use Rattle.lra_wire.specs.Request.{Request, request_of}
 
 -- another request, if there is one; otherwise the one that came
-abbrev pub meant_by : RequestRead → Option RequestRead → Request
-meant_by own None = request_of own
+abbrev pub meant_by : Request → Option RequestRead → Request
+meant_by own None = own
 meant_by own (Some other) = request_of other
 
 -- a request with another target and another body, as far as these are given

@@ -13,7 +13,7 @@ returns g c =
     answers_standing g.A.Handler.State g.row.K.Denot g.A.Handler.base_of g.A.Handler.responds g.K.Clock.tells
     c.args.connection.now.stands (request_of c.in-Some.request.now)
     c.respond-answered.result (g.A.Handler.sight c.args.handler.now)
-    (g.A.Handler.sight c.respond-answered.new.self) c.args.clock.now c.now-moment.new.self
+    (g.A.Handler.sight c.respond-answered.new.handler) c.args.clock.now c.now-moment.new.self
     c.args.connection.now c.push_reply.new.self c.now-moment.result c.push_reply.result (search rules)
     c.now-moment.ensures
     c.respond-answered.ensures.responds c.push_reply.ensures

@@ -1,13 +1,13 @@
 use Rattle.std.proofs.Common.{refl}
 use Rattle.std.specs.Prelude.{IsTrue}
-use Rattle.lra_wire.specs.Request.{Request, request_of}
+use Rattle.lra_wire.specs.Request.{Request}
 use Rattle.lra_rewrite.specs.Limits.{MeansLimited, may_mean}
 use Rattle.lra_rewrite.proofs.Asking.{asked}
 use Rattle.lra_rewrite.proofs.default_limit_filter.DefaultLimitFilterHandler.respond.Goals as goal
 
 pub returns-clause-responds : goal.returns-clause-responds
 returns-clause-responds g c =
-    let own : Request = request_of c.args.request.now in
+    let own : Request = c.args.request.now in
     record {
       limit = refl;
       inner =

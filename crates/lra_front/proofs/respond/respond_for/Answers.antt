@@ -1,6 +1,6 @@
 use Rattle.lra_wire.specs.Request.{request_of}
 use Rattle.lra_front.proofs.TimedRequest.{answerable}
-use Rattle.lra_front.proofs.route.Routes.respond_ordered.Goals as goal
+use Rattle.lra_front.proofs.respond.respond_for.Goals as goal
 
 pub answer-requires : goal.answer-requires
 answer-requires g c =
