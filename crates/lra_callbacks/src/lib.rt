@@ -17,9 +17,11 @@ mod silences;
 mod socket_set;
 mod sparing;
 mod worker_quota;
+mod worker_slot;
 
 pub use callbacks::Callbacks;
 pub use names::SharedDnsCache;
 pub use quota::Quota;
 pub use socket_set::{wake_workers, waker};
 pub use worker_quota::{TimeOuts, WorkerQuota};
+pub use worker_slot::WorkerSlot;

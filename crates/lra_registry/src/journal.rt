@@ -1,10 +1,9 @@
 //! One served journal of a folder.
 
-use lra_callbacks::wake_workers;
-use lra_commands::{Known, Query};
+use lra_callbacks::{WorkerSlot, wake_workers};
+use lra_commands::{Query, QueryResult};
 use lra_model::{Instance, Memory};
 use lra_outcomes::Outcomes;
-use lra_service::WorkerSlot;
 use lra_sessions::JournalSession;
 use lra_storage::JournalFile;
 use mio::Waker;
@@ -84,7 +83,7 @@ impl<B: JournalSession + Drop> ServedJournal<B> {
     }
 
     /// Returns the coordinator's reply to a query of its history, if it has one.
-    pub fn query<R: Wait>(&self, rt: &R, query: Query) -> Option<Known> {
+    pub fn query<R: Wait>(&self, rt: &R, query: Query) -> Option<QueryResult> {
         self.session.lock(rt).as_mut()?.query(query)
     }
 

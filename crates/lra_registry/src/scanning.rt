@@ -1,7 +1,7 @@
 //! Queries that count what a journal has, and find whether anything of it is left to be done.
 
 use crate::journal::ServedJournal;
-use lra_commands::{Known, Listing, Query, Row};
+use lra_commands::{Listing, Query, QueryResult, Row};
 use lra_rolls::{is_done_with, is_settled};
 use lra_sessions::JournalSession;
 use std::sync::Wait;
@@ -25,7 +25,7 @@ impl<B: JournalSession + Drop> ServedJournal<B> {
         };
         matches!(
             self.query(rt, query),
-            Some(Known::ActionIs(_) | Known::MemberIs(_))
+            Some(QueryResult::ActionIs(_) | QueryResult::MemberIs(_))
         )
     }
 
@@ -96,14 +96,14 @@ impl Scan {
             place: self.actions,
         };
         match journal.query(rt, query) {
-            Some(Known::Row { place, row }) if is_settled(&row) => {
+            Some(QueryResult::Row { place, row }) if is_settled(&row) => {
                 if let Row::Action { action, .. } = row {
                     self.members = Some((action, 0));
                 }
                 self.actions = place.saturating_add(1);
                 Scanned::Further
             }
-            Some(Known::NoMore) => Scanned::Settled,
+            Some(QueryResult::NoMore) => Scanned::Settled,
             _ => Scanned::Busy,
         }
     }
@@ -121,12 +121,12 @@ impl Scan {
             place,
         };
         match journal.query(rt, query) {
-            Some(Known::Row { place, row }) if is_done_with(&row, journal.has_given_up(rt, &row)) =>
-                {
-                    self.members = Some((action, place.saturating_add(1)));
-                    Scanned::Further
-                }
-            Some(Known::NoMore) => {
+            Some(QueryResult::Row { place, row })
+                if is_done_with(&row, journal.has_given_up(rt, &row)) => {
+                self.members = Some((action, place.saturating_add(1)));
+                Scanned::Further
+            }
+            Some(QueryResult::NoMore) => {
                 self.members = None;
                 Scanned::Further
             }

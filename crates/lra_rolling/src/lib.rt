@@ -3,18 +3,14 @@
 #![tactic(auto)]
 
 mod checking;
-mod folder_options;
 mod folder_state;
-mod notes;
-mod opening;
 mod operators_view;
-mod preparing;
 mod rotation_manager;
 mod running;
 mod wake_relay;
 mod working;
 
 pub use checking::check_folder;
-pub use folder_options::FolderOptions;
+pub use lra_journal_factory::FolderOptions;
 pub use lra_journal_folder::{RollingFault, rolling_line};
 pub use running::{FolderOutcome, serve_folder};

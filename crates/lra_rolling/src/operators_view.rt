@@ -3,11 +3,11 @@
 ghost use Rattle.std.specs.Prelude.{◌≡◌};
 
 use crate::folder_state::FolderState;
-use crate::notes::GivenUpNotes;
 use lra_audits::LONGEST;
 use lra_clocks::{Clock as SteadyClock, SystemClock};
-use lra_commands::{CounterFault, Known, Limits, Order, Query, Refusal, Told};
+use lra_commands::{CounterFault, Limits, Order, Query, QueryResult, Refusal, Told};
 use lra_ids::Base;
+use lra_journal_factory::GivenUpNotes;
 use lra_journal_folder::GivenUp;
 use lra_model::{Instance, Memory};
 use lra_operators_server::{Given, OperatorsServer, ProcessStatistics, Tallies, operators_order};
@@ -176,7 +176,7 @@ impl<'s, 'a: 's, R: Wait + Clock, H, B: JournalSession + Drop> FolderView<'_, 's
     }
 
     /// Returns the reply of a journal's coordinator to a query.
-    fn query_at(&mut self, place: usize, query: Query) -> Result<Known, CounterFault>
+    fn query_at(&mut self, place: usize, query: Query) -> Result<QueryResult, CounterFault>
         ensures { self.new.given ≡ self.old.given }
     {
         let Some(desk) = self.desks.get_mut(place) else {
@@ -298,7 +298,7 @@ impl<'s, 'a: 's, R: Wait + Clock, H, B: JournalSession + Drop> Overview
         self.folder_state.operators_context.tallies.put(page)
     }
 
-    fn query(&mut self, instance: Instance, query: Query) -> Result<Known, CounterFault> {
+    fn query(&mut self, instance: Instance, query: Query) -> Result<QueryResult, CounterFault> {
         match place_of(&self.desks, instance) {
             Some(place) => self.query_at(place, query),
             None => Err(self.lacking(instance)),

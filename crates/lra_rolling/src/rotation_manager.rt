@@ -2,10 +2,9 @@
 //! archives those that are done.
 
 use crate::folder_state::FolderState;
-use crate::opening::Opener;
-use crate::preparing::{JournalFactory, PreparedJournal};
 use lra_audits::RunFault;
 use lra_clocks::milliseconds;
+use lra_journal_factory::{JournalFactory, Opener, PreparedJournal};
 use lra_journal_folder::{RollingFault, rolling_line};
 use lra_logs::{Event, EventSink, FileTail, Level};
 use lra_model::Instance;

@@ -3,12 +3,8 @@
 ghost use Rattle.std.specs.Prelude.{◌≡◌, true, All, None};
 ghost use Rattle.lra_opening.specs.Places.{IsRead};
 
-use crate::folder_options::{FolderOptions, first_open, retire};
 use crate::folder_state::{FolderState, roles_of};
-use crate::notes::GivenUpNotes;
-use crate::opening::{Opener, OpeningContext};
 use crate::operators_view::OperatorsContext;
-use crate::preparing::JournalFactory;
 use crate::rotation_manager::{RotationManager, steady};
 use crate::wake_relay::WakeRelay;
 use crate::working::work;
@@ -19,6 +15,9 @@ use lra_durable::SyncGroup;
 use lra_event_loop::AcceptQueue;
 use lra_folders::stray_line;
 use lra_ids::Base;
+use lra_journal_factory::{
+    FolderOptions, GivenUpNotes, JournalFactory, Opener, OpeningContext, first_open, retire,
+};
 use lra_journal_folder::{Contents, Folder, GivenUp, RollingFault, Sound, Unsound, audit_all};
 use lra_logs::{Event, EventSink};
 use lra_model::Instance;
@@ -556,13 +555,7 @@ pub fn serve_folder<
     match audit_all(rt, &folder, &contents, watcher, writer)? {
         Err(Unsound { status, path }) => Ok(FolderOutcome::Unsound { status, path }),
         Ok(sounds) => {
-            let opener = OpeningContext {
-                rt,
-                alloc,
-                storage: &storage,
-                base: &site.base,
-                limits: limits_of(&settings),
-            };
+            let opener = OpeningContext::new(rt, alloc, &storage, &site.base, limits_of(&settings));
             service.serve_on(&storage, opener, &contents, sounds, entry, writer)
         }
     }

@@ -3,10 +3,10 @@
 ghost use Rattle.std.specs.Thread.{IsSend, IsSync};
 
 use crate::folder_state::{FolderRole, FolderState};
-use crate::opening::Opener;
 use crate::rotation_manager::RotationManager;
 use lra_admission::KeyFiles;
 use lra_audits::RunFault;
+use lra_journal_factory::Opener;
 use lra_logs::{Event, EventSink};
 use lra_opening::{Notifier, ServeFault};
 use lra_service::say;

@@ -42,7 +42,6 @@ pub use lra_opening::{
 pub use notifier::{
     LoggingNotifier, NullNotifier, OperatorsRefusalLogger, lose_callback_worker, lose_worker,
 };
-pub use polls::WorkerSlot;
 pub use running::{ServiceOutcome, serve, serve_from, serve_with};
 pub use shares::{CallbackSettings, limits_of, times_of};
 pub use socket_acceptor::{SocketAcceptor, make_socket_acceptor};

@@ -26,7 +26,7 @@ pub struct FolderOptions<'a> {
 impl FolderOptions<'_> {
     /// Returns the instance up to which journals accept no new work, if the folder was restored. If the options say now
     /// that it was, writes that instance to the folder first.
-    pub(crate) fn restored<R: Files<File = File> + AllocGlobal + Clone + Drop>(
+    pub fn restored<R: Files<File = File> + AllocGlobal + Clone + Drop>(
         &self,
         folder: &Folder<'_, R>,
         contents: &Contents,
@@ -46,7 +46,7 @@ impl FolderOptions<'_> {
 
 /// Returns the least number of an instance whose journal accepts new work. Journals up to the last one, if there is
 /// one, accept none.
-pub(crate) fn first_open(last: Option<Instance>) -> u64 {
+pub fn first_open(last: Option<Instance>) -> u64 {
     match last {
         Some(last) => last.number().saturating_add(1),
         None => 0,
@@ -54,7 +54,7 @@ pub(crate) fn first_open(last: Option<Instance>) -> u64 {
 }
 
 /// Closes journals before the first one to new work. Returns whether the newest journal, which comes last, accepts it.
-pub(crate) fn retire<B: JournalSession + Drop>(watches: &[JournalMonitor<B>], first: u64) -> bool {
+pub fn retire<B: JournalSession + Drop>(watches: &[JournalMonitor<B>], first: u64) -> bool {
     let mut takes = false;
     for watch in watches {
         takes = first <= watch.journal.instance.number();

@@ -8,7 +8,7 @@ use std::sync::{Mutex, Wait};
 
 /// The file of a folder with the members that operators have given up.
 #[derive(Drop)]
-pub(crate) struct GivenUpNotes {
+pub struct GivenUpNotes {
     file: Mutex<Option<File>>,
 }
 
@@ -20,14 +20,14 @@ fn add_line(file: &mut File, line: &str) -> bool {
 
 impl GivenUpNotes {
     /// Returns the notes in a file, if there is one.
-    pub(crate) fn new(file: Option<File>) -> GivenUpNotes {
+    pub fn new(file: Option<File>) -> GivenUpNotes {
         GivenUpNotes {
             file: Mutex::new(file),
         }
     }
 
     /// Adds a member. Returns whether that is durable.
-    pub(crate) fn add<R: Wait>(&self, rt: &R, alloc: Global, given: GivenUp) -> bool {
+    pub fn add<R: Wait>(&self, rt: &R, alloc: Global, given: GivenUp) -> bool {
         let Ok(line) = given_up_line(alloc, given) else {
             return false;
         };

@@ -1,0 +1,12 @@
+//! The journals of a folder, opened, begun and prepared before they are needed.
+#![tactic(auto)]
+
+mod folder_options;
+mod notes;
+mod opening;
+mod preparing;
+
+pub use folder_options::{FolderOptions, first_open, retire};
+pub use notes::GivenUpNotes;
+pub use opening::{Opener, OpeningContext};
+pub use preparing::{JournalFactory, PreparedJournal};
