@@ -9,6 +9,7 @@ mod fault;
 mod given;
 mod histogram;
 mod key;
+mod noted_journals;
 mod pace;
 mod post;
 mod process_statistics;

@@ -2,6 +2,7 @@
 
 use crate::denied::Denied;
 use crate::histogram::{Measured, put_histogram};
+use crate::noted_journals::NotedJournals;
 use crate::post::OperatorsServer;
 use crate::table::{Rows, Table, Words, label_of};
 use http::StatusCode;
@@ -84,13 +85,13 @@ pub struct Tallies {
     syncs: Option<Arc<Syncs>>,
     /// Number of milliseconds that a sync may take.
     sync_limit: u64,
-    /// Number plus 1 of the journal whose coordinator answered last that it has stopped, or 0.
-    stopped: AtomicU64,
+    /// Journals whose coordinators answered that they have stopped.
+    stopped: NotedJournals,
     /// Numbers of workers and callback workers that have ended though the service goes on.
     lost_workers: AtomicU64,
     lost_callback_workers: AtomicU64,
-    /// Number plus 1 of the journal whose callbacks were noted last to stand still, or 0.
-    standing: AtomicU64,
+    /// Journals whose callbacks stand still.
+    standing: NotedJournals,
 }
 
 /// Returns the digits of a status code, or `other` for one that has no column.
@@ -165,10 +166,10 @@ impl Tallies {
             denied: Denied::new(),
             syncs: syncs_at(alloc, post)?,
             sync_limit: sync_seconds.saturating_mul(1_000),
-            stopped: AtomicU64::new(0),
+            stopped: NotedJournals::new(alloc)?,
             lost_workers: AtomicU64::new(0),
             lost_callback_workers: AtomicU64::new(0),
-            standing: AtomicU64::new(0),
+            standing: NotedJournals::new(alloc)?,
         })
     }
 
@@ -200,13 +201,12 @@ impl Tallies {
 
     /// Notes that a journal's coordinator has stopped: nothing more is written to the journal.
     pub fn stop(&self, instance: Instance) {
-        let number = instance.number().saturating_add(1);
-        self.stopped.store(number, Ordering::SeqCst);
+        self.stopped.note(instance);
     }
 
-    /// Returns whether a journal's coordinator is the one that was noted last to have stopped.
+    /// Returns whether a journal's coordinator was noted to have stopped.
     pub fn has_stopped(&self, instance: Instance) -> bool {
-        self.stopped.load(Ordering::SeqCst) == instance.number().saturating_add(1)
+        self.stopped.has(instance)
     }
 
     /// Notes that a worker has ended though the service goes on.
@@ -226,25 +226,19 @@ impl Tallies {
 
     /// Notes that a callback worker is lost, and that a journal's callbacks stand still without it.
     pub fn stand(&self, journal: Instance) {
-        let number = journal.number().saturating_add(1);
-        self.standing.store(number, Ordering::SeqCst);
+        self.standing.note(journal);
         self.lose_callback_worker();
     }
 
     /// Notes that a journal's callbacks, which stood still, go on.
     pub fn go_on(&self, journal: Instance) {
-        let number = journal.number().saturating_add(1);
-        // If another journal was noted since, it stays the one that is reported.
-        let _ = self
-            .standing
-            .compare_exchange(number, 0, Ordering::SeqCst, Ordering::SeqCst);
+        self.standing.forget(journal);
         self.regain_callback_worker();
     }
 
-    /// Returns the journal whose callbacks were noted last to stand still, unless they have gone on since.
+    /// Returns a journal whose callbacks stand still, if there is any.
     pub fn standing(&self) -> Option<Instance> {
-        let number = self.standing.load(Ordering::SeqCst);
-        Instance::new(number.checked_sub(1)?)
+        self.standing.any()
     }
 
     /// Returns how many workers have ended though the service goes on.
