@@ -21,7 +21,7 @@ struct Host {
     /// Moment until which they are valid, in milliseconds.
     until: u64,
     /// Moment until which it waits for the look-up of its name, in milliseconds.
-    time_outs: u64,
+    deadline: u64,
     /// Number of permits that it has, for its open sockets among them.
     permits: u32,
     /// Number of open sockets to it.
@@ -302,7 +302,7 @@ impl Host {
             socket,
             addresses,
             until,
-            time_outs: 0,
+            deadline: 0,
             permits: 0,
             open: 0,
             waiting: VecDeque::new(alloc),
@@ -373,7 +373,7 @@ impl Host {
             }
             Found::Missed => Known::No,
             Found::Asked => {
-                self.time_outs = now.saturating_add(NAME_MS);
+                self.deadline = now.saturating_add(NAME_MS);
                 Known::NotYet
             }
             Found::Pending => self.wait_on(now),
@@ -382,10 +382,10 @@ impl Host {
 
     /// Waits for the look-up of the host's name, up to a moment.
     fn wait_on(&mut self, now: u64) -> Known {
-        if self.time_outs == 0 {
-            self.time_outs = now.saturating_add(NAME_MS);
+        if self.deadline == 0 {
+            self.deadline = now.saturating_add(NAME_MS);
         }
-        if now < self.time_outs {
+        if now < self.deadline {
             Known::NotYet
         } else {
             Known::No

@@ -2,16 +2,12 @@
 
 ghost use Rattle.std.specs.Prelude.{◌≡◌};
 ghost use Rattle.lra_wire.specs.Request.{request_of};
-ghost use Rattle.lra_front.specs.ApiRequests.{MayAsk};
 ghost use Rattle.lra_front.specs.Routes.{operation_of};
 
 use crate::api_error::ApiError;
-use crate::api_request::{ApiRequest, read_request};
 use crate::operation::Operation;
 use crate::route::Routes;
-use lra_ids::{Base, Instance};
 use lra_wire::RequestRead;
-use std::alloc::Global;
 use std::marker::Model;
 
 /// Request with the operation that it asks for. A contract sees the request.
@@ -90,18 +86,5 @@ impl<'r> RoutedRequest<'r> {
         } else {
             self.routes.operation(self.request.method.as_str(), target)
         }
-    }
-
-    /// Returns the API request of the request. It checks the path first, then the method, then the body, then the
-    /// path's identifier, and then the body's. Memory may be refused where the operation reads its body.
-    pub fn api_request(
-        &self,
-        alloc: Global,
-        instance: Instance,
-        base: &Base,
-    ) -> Result<ApiRequest, ApiError>
-        ensures { MayAsk instance base.now self.now result }
-    {
-        read_request(alloc, instance, base, self.operation, self.request)
     }
 }
