@@ -17,7 +17,7 @@ use Rattle.lra_journal.proofs.Apart.{lines_apart, texts_aligned, texts_apart, en
 use Rattle.lra_addresses.specs.Addresses.{is_address}
 use Rattle.lra_course.specs.declared.verdict.Verdict.TheVariants.{Sound, Unsound}
 use Rattle.lra_auditor.specs.Verdicts.{IsTextOf, Breaks, IsFault, IsVerdict}
-use Rattle.lra_course.specs.Verdicts.{summary}
+use Rattle.lra_totals.specs.Summaries.{summary}
 use Rattle.lra_auditor.specs.OneVerdict.{BytesHaveOneVerdict, LegalTextsAreSound}
 use Rattle.lra_course.proofs.Faults.{is_legal-broken}
 use Rattle.lra_auditor.proofs.LegalTexts.{legal_has_text}

@@ -19,11 +19,11 @@ use Rattle.lra_journal.specs.Line.{line, text}
 use Rattle.lra_journal.proofs.Apart.{body_of, header_body, not_nil}
 use Rattle.lra_addresses.specs.Addresses.{is_address}
 use Rattle.lra_laws.proofs.Legal.{legal_empty}
-use Rattle.lra_course.specs.declared.verdict.Summary.{Summary}
+use Rattle.lra_totals.specs.declared.totals.Summary.{Summary}
 use Rattle.lra_course.specs.declared.verdict.Verdict.{Verdict}
 use Rattle.lra_course.specs.declared.verdict.Verdict.TheVariants.{Sound, Unsound}
 use Rattle.lra_auditor.specs.Verdicts.{IsVerdict}
-use Rattle.lra_course.specs.Verdicts.{summary}
+use Rattle.lra_totals.specs.Summaries.{summary}
 use Rattle.lra_auditor.proofs.Feeds.{text-push}
 use Rattle.lra_auditor.proofs.LegalTexts.{legal_has_text}
 use Rattle.lra_auditor.proofs.OneVerdict.{one_verdict, legal_text_sound}

@@ -8,7 +8,7 @@ use Rattle.lra_addresses.specs.Addresses.{is_address}
 use Rattle.lra_course.specs.declared.verdict.Verdict.{Verdict}
 use Rattle.lra_course.specs.declared.verdict.Verdict.TheVariants.{Sound}
 use Rattle.lra_auditor.specs.Verdicts.{IsVerdict}
-use Rattle.lra_course.specs.Verdicts.{summary}
+use Rattle.lra_totals.specs.Summaries.{summary}
 
 -- no bytes have two verdicts
 abbrev pub BytesHaveOneVerdict : Type 0

@@ -11,7 +11,7 @@ use Rattle.lra_journal.specs.Line.{line, text, HasLine, HasText}
 use Rattle.lra_journal.specs.Lines.{HasNoHeader, HasNoLine}
 use Rattle.lra_course.specs.declared.verdict.Verdict.{Verdict}
 use Rattle.lra_course.specs.declared.verdict.Verdict.TheVariants.{Sound, Unsound}
-use Rattle.lra_course.specs.Verdicts.{summary}
+use Rattle.lra_totals.specs.Summaries.{summary}
 use Rattle.lra_addresses.specs.Addresses.{is_address}
 
 -- bytes are the text of a history that is legal in the version of their header

@@ -1,10 +1,5 @@
 pub mod RowsLaw
 pub mod RowsWorked
-pub mod Index
-pub mod TotalsLaw
 pub mod ListingLaw
 pub mod Faults
-pub mod Counting
 pub mod Courses
-pub mod Marks
-pub mod PlainAddresses

@@ -21,7 +21,7 @@ use Rattle.lra_laws.proofs.Worked.{cancelled_meanwhile, failing, cancelled_below
 use Rattle.lra_laws.proofs.Worked.{taken_back}
 use Rattle.lra_laws.specs.Rows.{State, state_of, standing, void_asks, count_staying, count_children}
 use Rattle.lra_laws.specs.inner.RowFacts.{facts_by}
-use Rattle.lra_course.specs.Start.{after_entry}
+use Rattle.lra_course_rows.specs.Start.{after_entry}
 
 -- a report overtakes an ask, a restart leaves another void, and both are asked again
 abbrev wild : History

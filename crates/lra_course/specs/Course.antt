@@ -6,8 +6,8 @@ use Rattle.lra_model.specs.History.{History}
 use Rattle.lra_model.specs.Rules.{is_legal}
 use Rattle.lra_addresses.specs.Addresses.{is_address}
 use Rattle.lra_laws.specs.Rows.{State, state_of}
-use Rattle.lra_course.specs.Start.{after_entry}
-use Rattle.lra_course.specs.Start.{no_entries}
+use Rattle.lra_course_rows.specs.Start.{after_entry}
+use Rattle.lra_course_rows.specs.Start.{no_entries}
 
 -- the version, how many entries there are, and the state after them
 pub record HistoryRead : Type 0 where

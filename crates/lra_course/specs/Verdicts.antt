@@ -1,43 +1,13 @@
--- What is said of a history's entries, in the words of histories.
-use Rattle.std.specs.Prelude.{◌≡◌, ℕ, Bool, true, false, length, Option, option_map, unwrap_or}
+-- The verdict on a history's entries, in the words of histories.
+use Rattle.std.specs.Prelude.{◌≡◌, ℕ, Bool, true, false}
 use Rattle.std.specs.Option.{option_map_or}
-use Rattle.std.specs.List.{filter_map}
-use Rattle.lra_model.specs.declared.status.ActionStatus.{ActionStatus}
-use Rattle.lra_model.specs.declared.status.ActionStatus.TheVariants as action
 use Rattle.lra_model.specs.declared.version.Version.{Version}
-use Rattle.lra_model.specs.Words.{is_closed, same_status}
-use Rattle.lra_model.specs.History.{History, actions}
-use Rattle.lra_model.specs.Actions.{action_status}
+use Rattle.lra_model.specs.History.{History}
 use Rattle.lra_model.specs.Rules.{Fault, first_fault}
-use Rattle.lra_model.specs.Tallies.{count_actions, least_failed, failed_actions}
-use Rattle.lra_laws.specs.Rows.{is_unended}
 use Rattle.lra_addresses.specs.Addresses.{is_address}
-use Rattle.lra_course.specs.declared.verdict.FailedEnd.{FailedEnd}
-use Rattle.lra_course.specs.declared.verdict.Summary.{Summary}
+use Rattle.lra_totals.specs.Summaries.{summary}
 use Rattle.lra_course.specs.declared.verdict.Verdict.{Verdict}
 use Rattle.lra_course.specs.declared.verdict.Verdict.TheVariants.{Sound, Unsound}
-
--- an action that ended in failure, with the least member that failed and stays in it or below it; a legal history has
--- one for each
-abbrev pub failed_end : History → ℕ → Option FailedEnd
-failed_end J a = option_map
-    (λ p. record { action = a; status = unwrap_or (action_status J a) action.Active; member = p }) (least_failed J a)
-
--- an action that ended cancelled, and not in failure
-abbrev pub ended_cancelled : ActionStatus → Bool
-ended_cancelled s = same_status s action.Cancelled
-
--- the summary of a history: how many entries and actions it has, how many of these have ended and how, and the failed
--- ends
-unfoldable pub summary : History → Summary
-summary J = record {
-  entries = length J;
-  actions = length (actions J);
-  unended = count_actions is_unended J;
-  closed = count_actions is_closed J;
-  cancelled = count_actions ended_cancelled J;
-  failed = filter_map (failed_end J) (failed_actions J);
-}
 
 -- the verdict on entries: their first fault, as if a header stood before them, else their summary
 abbrev pub verdict_on : Version → History → Verdict

@@ -2,19 +2,14 @@
 //! doesn't read the journal's text.
 #![tactic(auto)]
 
-mod advance;
-mod broken;
 mod course;
 mod entries;
-mod lawful;
 mod listing;
-mod plain;
-mod state;
-mod summary;
 mod verdict;
 
 pub use course::Course;
 pub use entries::check;
 pub use listing::{Account, ListedAction, ListedMember, Listing};
 pub use lra_model::{Memory, Rule, Version};
-pub use verdict::{FailedEnd, FailedEnds, Summary, Verdict};
+pub use lra_totals::{FailedEnd, FailedEnds, Summary};
+pub use verdict::Verdict;

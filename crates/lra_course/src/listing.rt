@@ -4,7 +4,7 @@ ghost use Rattle.std.specs.Prelude.{◌≡◌, length};
 ghost use Rattle.lra_laws.specs.Rows.{row_at};
 ghost use Rattle.lra_course.specs.ListedRows.{listed_by};
 
-use crate::state::Rows;
+use lra_course_rows::Rows;
 use lra_model::{ActionStatus, MemberStatus, Rule};
 use std::marker::Model;
 

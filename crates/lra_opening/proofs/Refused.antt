@@ -4,7 +4,7 @@ use Rattle.lra_model.specs.declared.rule.Rule.{Rule}
 use Rattle.lra_model.specs.declared.version.Version.{Version}
 use Rattle.lra_model.specs.History.{History}
 use Rattle.lra_course.specs.declared.verdict.Verdict.TheVariants.{Sound}
-use Rattle.lra_course.specs.Verdicts.{summary}
+use Rattle.lra_totals.specs.Summaries.{summary}
 use Rattle.lra_auditor.specs.Verdicts.{IsTextOf, IsFault}
 use Rattle.lra_core.specs.Fed.{Fed, IsFed}
 use Rattle.lra_office.specs.Wholes.{whole_lines}

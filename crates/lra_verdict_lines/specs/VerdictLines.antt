@@ -4,8 +4,8 @@ use Rattle.std.specs.Fmt.{decimal}
 use Rattle.std.specs.List.{flat_map}
 use Rattle.lra_model.specs.declared.rule.Rule.{Rule}
 use Rattle.lra_model.specs.Names.{action_status_name, rule_name}
-use Rattle.lra_course.specs.declared.verdict.FailedEnd.{FailedEnd}
-use Rattle.lra_course.specs.declared.verdict.Summary.{Summary}
+use Rattle.lra_totals.specs.declared.totals.FailedEnd.{FailedEnd}
+use Rattle.lra_totals.specs.declared.totals.Summary.{Summary}
 use Rattle.lra_course.specs.declared.verdict.Verdict.{Verdict}
 use Rattle.lra_course.specs.declared.verdict.Verdict.TheVariants.{Sound, Unsound}
 

@@ -1,6 +1,0 @@
-use Rattle.std.proofs.Common.{◌≡◌, drop, true}
-use Rattle.lra_course.specs.inner.Plain.{is_path}
-use Rattle.lra_course.proofs.plain.is_path.Given as goal
-
-abbrev pub invariant-loop-b : goal.invariant-loop-b
-invariant-loop-b l = is_path l.fresh (drop l.b-index l.bytes) ≡ is_path true l.bytes

@@ -1,3 +1,0 @@
--- The words that private functions and proofs alone use: no public contract stands on them.
-pub mod Holders
-pub mod Plain

@@ -1,0 +1,2 @@
+pub mod TotalsLaw
+pub mod Marks
