@@ -596,9 +596,18 @@ def fill(path):
             pass
 
 
-def test_a_full_disk_stops_the_newest_journal_and_no_reads(setting):
+def join_until_it_stops(client, action):
+    """Lets members join an action until its journal can't be written."""
+    path, address = "/lra-coordinator/" + id_of(action), "http://127.0.0.1:1/"
+    while (reply := client.call("PUT", path, compensate=address)).code == 200:
+        address += "a"
+    equal("the last join", (reply.code, reply.body), (503, {"error": "Stopped"}))
+
+
+def test_a_full_disk_stops_two_journals_and_no_reads(setting):
+    """The log has each of them."""
     with small_disk(f"{setting.folder}/journals"):
-        with Folder(setting, *FAR) as folder, folder.client() as client:
+        with Folder(setting, *FAR, "--log", "error") as folder, folder.client() as client:
             actions = folder.first(3)
             folder.wait_for(2)
             actions += folder.first(2)
@@ -606,9 +615,12 @@ def test_a_full_disk_stops_the_newest_journal_and_no_reads(setting):
             while (reply := client.call("POST", "/lra-coordinator")).code == 201:
                 actions.append(reply.body["lra"])
             equal("the last start", (reply.code, reply.body), (503, {"error": "Stopped"}))
+            join_until_it_stops(client, actions[0])
             for action in (actions[0], actions[-1]):
                 equal("a read", client.status(action), "Active")
-            equal("a close", client.call("PUT", f"/lra-coordinator/{id_of(actions[-1])}/close").code, 503)
+                equal("a close", client.call("PUT", f"/lra-coordinator/{id_of(action)}/close").code, 503)
+                line = f"error write failed journal={instance_of(action)}"
+                wait_until(f"that the log has {line}", lambda line=line: line in folder.told())
             folder.kill()
         os.remove(folder.path("filler"))
         with Folder(setting, *FAR) as folder, folder.client() as client:

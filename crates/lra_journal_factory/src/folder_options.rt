@@ -3,8 +3,6 @@
 use lra_journal_folder::{Contents, Folder, RollingFault};
 use lra_model::Instance;
 use lra_opening::ServeFault;
-use lra_registry::JournalMonitor;
-use lra_sessions::JournalSession;
 use lra_storage::Fence;
 use std::fs::File;
 use std::rt::Files;
@@ -51,16 +49,4 @@ pub fn first_open(last: Option<Instance>) -> u64 {
         Some(last) => last.number().saturating_add(1),
         None => 0,
     }
-}
-
-/// Closes journals before the first one to new work. Returns whether the newest journal, which comes last, accepts it.
-pub fn retire<B: JournalSession + Drop>(watches: &[JournalMonitor<B>], first: u64) -> bool {
-    let mut takes = false;
-    for watch in watches {
-        takes = first <= watch.journal.instance.number();
-        if !takes {
-            watch.journal.retire();
-        }
-    }
-    takes
 }

@@ -6,7 +6,7 @@ mod notes;
 mod opening;
 mod preparing;
 
-pub use folder_options::{FolderOptions, first_open, retire};
+pub use folder_options::{FolderOptions, first_open};
 pub use notes::GivenUpNotes;
 pub use opening::{Opener, OpeningContext};
 pub use preparing::{JournalFactory, PreparedJournal};

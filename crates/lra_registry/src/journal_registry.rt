@@ -2,121 +2,185 @@
 
 use crate::journal::ServedJournal;
 use lra_model::{Instance, Memory};
-use std::alloc::Global;
+use std::alloc::{AllocError, Global};
 use std::sync::atomic::{AtomicBool, AtomicU64, Ordering};
 use std::sync::{Arc, Mutex, Wait};
 
-/// Registry of the served journals, the newest last. Its version changes whenever a journal joins or leaves.
+/// Journal set that the rotation has published.
+#[derive(Drop)]
+pub struct PublishedSet<B> {
+    /// Version of the set, which changes whenever a journal joins or leaves.
+    pub version: u64,
+    /// Served journals, the newest last.
+    pub served: Vec<Arc<ServedJournal<B>>>,
+    /// Instances of the journals that have left and aren't archived yet.
+    pub retiring: Vec<Instance>,
+}
+
+/// Registry of the served journals, as the rotation has published them last.
 #[derive(Drop)]
 pub struct JournalRegistry<B> {
     alloc: Global,
-    journals: Mutex<Vec<Arc<ServedJournal<B>>>>,
+    published: Mutex<PublishedSet<B>>,
+    /// Version that was published last.
     version: AtomicU64,
+    /// Number of journals that have left and aren't archived yet.
+    retiring: AtomicU64,
     /// Mark that a journal is closed to new work.
     has_reserved: AtomicBool,
     /// Mark that new work that names no journal is refused.
-    is_draining: AtomicBool,
-    /// The instance of the journal that has left and isn't archived yet, or `NONE`.
-    retiring: AtomicU64,
+    refuses_new: AtomicBool,
+    /// Mark that it is refused because the service drains.
+    is_draining: bool,
+    /// Version that each connection worker follows, or one of the constants below.
+    followed: Vec<AtomicU64>,
     /// Number of connection workers that can't follow the last change, and the number of times that one couldn't.
     lagging: AtomicU64,
     falls: AtomicU64,
 }
 
-/// Number that no instance has.
-const NONE: u64 = u64::MAX;
+/// Version that no set has: that of a thread that hasn't followed any yet.
+pub const NO_VERSION: u64 = u64::MAX - 1;
+
+/// Version of a connection worker that has ended, and holds no session any more. No set has it.
+const ENDED: u64 = u64::MAX;
+
+/// Version that a connection worker follows, if it follows one.
+#[derive(Clone, Copy, Debug, PartialEq, Eq)]
+pub enum Following {
+    /// It hasn't followed any version yet.
+    Nothing,
+    /// It has a session of each journal in the set of that version.
+    Version(u64),
+    /// It has ended, and holds no session any more.
+    Ended,
+}
+
+/// Returns the versions that connection workers follow at first.
+fn none_followed(alloc: Global, workers: u32) -> Result<Vec<AtomicU64>, AllocError> {
+    let mut followed = Vec::new(alloc);
+    for _worker in 0..workers {
+        followed.push(AtomicU64::new(NO_VERSION))?;
+    }
+    Ok(followed)
+}
 
 impl<B: Drop> JournalRegistry<B> {
-    pub fn new(alloc: Global) -> JournalRegistry<B> {
-        JournalRegistry {
+    /// Returns a registry without journals, for so many connection workers. If it drains, new work that names no
+    /// journal is refused.
+    pub fn new(
+        alloc: Global,
+        workers: u32,
+        is_draining: bool,
+    ) -> Result<JournalRegistry<B>, AllocError> {
+        Ok(JournalRegistry {
             alloc,
-            journals: Mutex::new(Vec::new(alloc)),
-            version: AtomicU64::new(1),
+            published: Mutex::new(PublishedSet {
+                version: NO_VERSION,
+                served: Vec::new(alloc),
+                retiring: Vec::new(alloc),
+            }),
+            version: AtomicU64::new(NO_VERSION),
+            retiring: AtomicU64::new(0),
             has_reserved: AtomicBool::new(false),
-            is_draining: AtomicBool::new(false),
-            retiring: AtomicU64::new(NONE),
+            refuses_new: AtomicBool::new(is_draining),
+            is_draining,
+            followed: none_followed(alloc, workers)?,
             lagging: AtomicU64::new(0),
             falls: AtomicU64::new(0),
-        }
+        })
     }
 
-    /// Refuses new work that names no journal from now on. The actions that exist go on.
-    pub fn drain(&self) {
-        self.is_draining.store(true, Ordering::SeqCst);
-    }
-
-    /// Returns whether new work that names no journal is refused.
+    /// Returns whether new work that names no journal is refused because the service drains.
     pub fn is_draining(&self) -> bool {
-        self.is_draining.load(Ordering::SeqCst)
+        self.is_draining
     }
 
-    /// Returns the version, which changes whenever a journal joins or leaves.
+    /// Returns the version that was published last.
     pub fn version(&self) -> u64 {
         self.version.load(Ordering::SeqCst)
     }
 
-    /// Records whether a journal is closed to new work.
-    pub fn note_reserved(&self, has_reserved: bool) {
+    /// Replaces the journals by those of another set, or of the same, and records whether new work that names no
+    /// journal is refused.
+    pub fn publish<R: Wait>(&self, rt: &R, set: PublishedSet<B>, refuses_new: bool) {
+        let has_reserved = set.served.iter().any(|journal| journal.is_reserved());
+        let (version, retiring) = (set.version, set.retiring.len() as u64);
+        let mut published = self.published.lock(rt);
         self.has_reserved.store(has_reserved, Ordering::SeqCst);
+        self.refuses_new.store(refuses_new, Ordering::SeqCst);
+        self.retiring.store(retiring, Ordering::SeqCst);
+        *published = set;
+        self.version.store(version, Ordering::SeqCst);
     }
 
     /// Returns whether a journal may be closed to new work, or new work that names no journal is refused.
     pub fn has_reserved(&self) -> bool {
-        self.has_reserved.load(Ordering::SeqCst) || self.is_draining()
+        self.has_reserved.load(Ordering::SeqCst) || self.refuses_new.load(Ordering::SeqCst)
     }
 
     /// Returns whether the journal of an instance is closed to new work.
     pub fn is_reserved<R: Wait>(&self, rt: &R, instance: Instance) -> bool {
-        self.journals.lock(rt).iter().any(|journal| journal.instance.number() == instance.number()
+        let published = self.published.lock(rt);
+        published.served.iter().any(|journal| journal.instance.number() == instance.number()
             && journal.is_reserved())
     }
 
-    /// Returns the newest journal's instance, if that journal refuses new work that names no journal.
+    /// Returns the newest journal's instance, if new work that names no journal is refused.
     pub fn reserved_newest<R: Wait>(&self, rt: &R) -> Option<Instance> {
-        match self.journals.lock(rt).last() {
-            Some(newest) if newest.is_reserved() || self.is_draining() => Some(newest.instance),
-            _ => None,
+        if !self.refuses_new.load(Ordering::SeqCst) {
+            return None;
         }
-    }
-
-    /// Adds a journal as the newest.
-    pub fn publish<R: Wait>(&self, rt: &R, journal: Arc<ServedJournal<B>>) -> Result<(), Memory> {
-        if self.journals.lock(rt).push(journal).is_err() {
-            return Err(Memory);
+        let published = self.published.lock(rt);
+        match published.served.last() {
+            Some(newest) => Some(newest.instance),
+            None => None,
         }
-        self.version.fetch_add(1, Ordering::SeqCst);
-        Ok(())
-    }
-
-    /// Removes a journal, to be archived. Until `forget`, no reply says that there is no journal of its instance.
-    pub fn withdraw<R: Wait>(&self, rt: &R, instance: Instance) {
-        self.retiring.store(instance.number(), Ordering::SeqCst);
-        let mut journals = self.journals.lock(rt);
-        let place = journals
-            .iter()
-            .position(|journal| journal.instance.number() == instance.number());
-        if let Some(place) = place {
-            drop(journals.remove(place));
-        }
-        drop(journals);
-        self.version.fetch_add(1, Ordering::SeqCst);
-    }
-
-    /// Records that the removed journal is archived.
-    pub fn forget(&self) {
-        self.retiring.store(NONE, Ordering::SeqCst);
     }
 
     /// Returns whether the journals of a version may lack that of an instance. They may while it isn't archived yet, or
     /// if there is another version now.
-    pub fn lacks(&self, instance: Instance, version: u64) -> bool {
-        let is_retiring = self.retiring.load(Ordering::SeqCst) == instance.number();
-        is_retiring || self.version() != version
+    pub fn lacks<R: Wait>(&self, rt: &R, instance: Instance, version: u64) -> bool {
+        let published = self.published.lock(rt);
+        published.version != version
+            || published
+                .retiring
+                .iter()
+                .any(|other| other.number() == instance.number())
     }
 
     /// Returns whether the journals of a version may lack any journal.
     pub fn lacks_any(&self, version: u64) -> bool {
-        self.retiring.load(Ordering::SeqCst) != NONE || self.version() != version
+        self.retiring.load(Ordering::SeqCst) > 0 || self.version() != version
+    }
+
+    /// Records that a connection worker has a session of each journal in the set of a version, and of no other.
+    pub fn follow(&self, worker: u32, version: u64) {
+        if let Some(followed) = self.followed.get(worker as usize) {
+            followed.store(version, Ordering::SeqCst);
+        }
+    }
+
+    /// Records that a connection worker has ended, and holds no session any more.
+    pub fn end(&self, worker: u32) {
+        self.follow(worker, ENDED);
+    }
+
+    /// Returns how many connection workers there are.
+    pub fn workers(&self) -> usize {
+        self.followed.len()
+    }
+
+    /// Returns what is known of a connection worker.
+    pub fn following(&self, worker: usize) -> Following {
+        let Some(followed) = self.followed.get(worker) else {
+            return Following::Nothing;
+        };
+        match followed.load(Ordering::SeqCst) {
+            NO_VERSION => Following::Nothing,
+            ENDED => Following::Ended,
+            version => Following::Version(version),
+        }
     }
 
     /// Records that a connection worker can't follow a change.
@@ -126,7 +190,7 @@ impl<B: Drop> JournalRegistry<B> {
     }
 
     /// Records that a connection worker follows the changes again.
-    pub fn follow(&self) {
+    pub fn catch_up(&self) {
         self.lagging.fetch_sub(1, Ordering::SeqCst);
     }
 
@@ -140,18 +204,20 @@ impl<B: Drop> JournalRegistry<B> {
         self.falls.load(Ordering::SeqCst)
     }
 
-    /// Returns all journals, the newest last.
-    pub fn all<R: Wait>(&self, rt: &R) -> Result<Vec<Arc<ServedJournal<B>>>, Memory> {
+    /// Returns the version that was published last, and its journals, the newest last.
+    pub fn all<R: Wait>(&self, rt: &R) -> Result<(u64, Vec<Arc<ServedJournal<B>>>), Memory> {
         let mut all = Vec::new(self.alloc);
-        for journal in self.journals.lock(rt).iter() {
+        let published = self.published.lock(rt);
+        for journal in &published.served {
             all.push(Arc::try_clone(journal)?)?;
         }
-        Ok(all)
+        Ok((published.version, all))
     }
 
     /// Wakes the callback worker of each journal that has grown since the last check, or has callbacks under way.
     pub fn wake<R: Wait>(&self, rt: &R) {
-        for journal in self.journals.lock(rt).iter() {
+        let published = self.published.lock(rt);
+        for journal in &published.served {
             if journal.has_news() {
                 journal.wake_workers();
             }
@@ -160,7 +226,8 @@ impl<B: Drop> JournalRegistry<B> {
 
     /// Wakes all callback workers.
     pub fn wake_workers<R: Wait>(&self, rt: &R) {
-        for journal in self.journals.lock(rt).iter() {
+        let published = self.published.lock(rt);
+        for journal in &published.served {
             journal.wake_workers();
         }
     }

@@ -4,6 +4,7 @@
 
 mod journal;
 mod journal_registry;
+mod publishing;
 mod reservations;
 mod room;
 mod scanning;
@@ -11,7 +12,8 @@ mod set_members;
 mod watching;
 
 pub use journal::ServedJournal;
-pub use journal_registry::JournalRegistry;
+pub use journal_registry::{Following, JournalRegistry, NO_VERSION, PublishedSet};
+pub use publishing::published_set;
 pub use reservations::Reservations;
 pub use set_members::SetMembers;
-pub use watching::JournalMonitor;
+pub use watching::{JournalBounds, JournalMonitor, observe_all};

@@ -1,7 +1,7 @@
-//! The room that a nearly full journal reserves for the ends of its actions.
+//! The room that a nearly full journal keeps for the ends of its actions.
 
 use crate::journal::ServedJournal;
-use lra_rolls::{Counts, Mark, is_near_end, least_pause};
+use lra_rotation::{Counts, Mark, is_near_limit, least_pause};
 use std::sync::atomic::Ordering;
 
 impl<B: Drop> ServedJournal<B> {
@@ -19,23 +19,23 @@ impl<B: Drop> ServedJournal<B> {
         }
     }
 
-    /// Closes the journal to new work once its entries or bytes are near their limit. Returns the mark of bytes, if
-    /// they have just reached it.
-    pub fn reserve(&self, limit: &Counts) -> Option<Mark> {
-        let is_by_entries = is_near_end(self.count_entries(), limit.entries);
-        if !is_by_entries && !is_near_end(self.bytes(), limit.bytes) {
-            return None;
-        }
-        if self.is_reserved.swap(true, Ordering::SeqCst) || is_by_entries {
-            None
-        } else {
-            Some(Mark::Bytes)
-        }
+    /// Returns whether the journal's entries or bytes are near their limit.
+    pub fn is_near_end(&self, limit: &Counts) -> bool {
+        is_near_limit(self.count_entries(), limit.entries)
+            || is_near_limit(self.bytes(), limit.bytes)
     }
 
-    /// Closes the journal to new work, however little it has.
-    pub fn retire(&self) {
-        self.is_reserved.store(true, Ordering::SeqCst);
+    /// Closes the journal to new work. Returns the mark of bytes, if they alone are near their limit and the journal
+    /// was open.
+    pub fn close_to_new_work(&self, limit: &Counts) -> Option<Mark> {
+        let was_reserved = self.is_reserved.swap(true, Ordering::SeqCst);
+        let is_by_bytes = is_near_limit(self.bytes(), limit.bytes)
+            && !is_near_limit(self.count_entries(), limit.entries);
+        if is_by_bytes && !was_reserved {
+            Some(Mark::Bytes)
+        } else {
+            None
+        }
     }
 
     /// Returns whether the journal is closed to new work.

@@ -2,7 +2,7 @@
 
 use crate::journal::ServedJournal;
 use lra_commands::{Listing, Query, QueryResult, Row};
-use lra_rolls::{is_done_with, is_settled};
+use lra_rotation::{is_done_with, is_settled};
 use lra_sessions::JournalSession;
 use std::sync::Wait;
 

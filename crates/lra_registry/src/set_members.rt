@@ -4,7 +4,7 @@ ghost use Rattle.std.specs.Prelude.{IfSome};
 ghost use Rattle.lra_journal_router.specs.JournalRouters.{HaveBase, KeepsBase, Moved, base_of};
 
 use crate::journal::ServedJournal;
-use crate::journal_registry::JournalRegistry;
+use crate::journal_registry::{JournalRegistry, NO_VERSION};
 use lra_clocks::{Clock, SystemClock};
 use lra_journal_router::{Membership, add_member, remove_member};
 use lra_journal_sets::JournalSet;
@@ -20,6 +20,8 @@ use std::time;
 pub struct SetMembers<'s, 'a, R: Wait, B> {
     rt: &'a R,
     journal_registry: &'s JournalRegistry<B>,
+    /// Number of the connection worker.
+    worker: u32,
     /// Instances of the journals in the set.
     mine: Vec<Instance>,
     /// Version of the registry that the set follows.
@@ -30,18 +32,20 @@ pub struct SetMembers<'s, 'a, R: Wait, B> {
 }
 
 impl<'s, 'a, R: Wait, B> SetMembers<'s, 'a, R, B> {
-    /// Returns a membership without journals.
+    /// Returns the membership of a connection worker, without journals.
     pub fn new(
         rt: &'a R,
         alloc: Global,
         journal_registry: &'s JournalRegistry<B>,
+        worker: u32,
         clock: SystemClock<'a, R>,
     ) -> SetMembers<'s, 'a, R, B> {
         SetMembers {
             rt,
             journal_registry,
+            worker,
             mine: Vec::new(alloc),
-            seen: 0,
+            seen: NO_VERSION,
             is_behind: false,
             clock,
         }
@@ -53,6 +57,11 @@ fn is_among<B: Drop>(journals: &[Arc<ServedJournal<B>>], instance: Instance) -> 
     journals
         .iter()
         .any(|journal| journal.instance.number() == instance.number())
+}
+
+/// Returns a version, if it is followed.
+fn followed(is_followed: bool, version: u64) -> Option<u64> {
+    if is_followed { Some(version) } else { None }
 }
 
 impl<R: Wait + time::Clock, B: JournalSession + Drop> SetMembers<'_, '_, R, B> {
@@ -68,7 +77,7 @@ impl<R: Wait + time::Clock, B: JournalSession + Drop> SetMembers<'_, '_, R, B> {
     pub fn begin(&mut self, alloc: Global) -> Option<JournalSet<B>>
         ensures base { IfSome result (λ journal_set. HaveBase (base_of journal_set) journal_set) }
     {
-        let journals = self.journal_registry.all(self.rt).ok()?;
+        let (_version, journals) = self.journal_registry.all(self.rt).ok()?;
         let session = self.enrol(journals.first()?)?;
         JournalSet::new(alloc, session).ok()
     }
@@ -127,31 +136,33 @@ impl<R: Wait + time::Clock, B: JournalSession + Drop> SetMembers<'_, '_, R, B> {
         self.mine.retain(|instance| instance.number() == newest || is_among(journals, *instance));
     }
 
-    /// Adds and removes journals. Returns whether the set follows the registry now.
+    /// Adds and removes journals. Returns the version that the set follows now, if it follows one.
     #[tactic(auto, using(crate::proofs::Grows::steps))]
-    fn catch_up(&mut self, journal_set: &mut JournalSet<B>) -> bool
+    fn catch_up(&mut self, journal_set: &mut JournalSet<B>) -> Option<u64>
         ensures moved { Moved journal_set.old journal_set.new }
         ensures base { KeepsBase journal_set.old journal_set.new }
     {
-        let Ok(journals) = self.journal_registry.all(self.rt) else {
-            return false;
+        let Ok((version, journals)) = self.journal_registry.all(self.rt) else {
+            return None;
         };
         let follows = self.join_all(journal_set, &journals);
         self.leave_all(journal_set, &journals);
-        follows
+        followed(follows, version)
     }
 
-    /// Records whether the set follows that version of the registry.
-    fn note(&mut self, follows: bool, version: u64) {
-        if follows {
+    /// Records which version the set follows, if it follows one.
+    fn note(&mut self, followed: Option<u64>) {
+        if let Some(version) = followed {
             self.seen = version;
+            self.journal_registry.follow(self.worker, version);
         }
-        if follows == self.is_behind {
-            self.is_behind = !follows;
-            if follows {
-                self.journal_registry.follow();
-            } else {
+        let is_behind = followed.is_none();
+        if is_behind != self.is_behind {
+            self.is_behind = is_behind;
+            if is_behind {
                 self.journal_registry.fall_behind();
+            } else {
+                self.journal_registry.catch_up();
             }
         }
     }
@@ -163,12 +174,11 @@ impl<R: Wait + time::Clock, B: JournalSession + Drop> Membership<B> for SetMembe
 
     #[tactic(auto, using(crate::proofs::Grows::steps))]
     fn look(&mut self, journal_set: &mut JournalSet<B>) {
-        let version = self.journal_registry.version();
-        if version == self.seen {
+        if self.journal_registry.version() == self.seen {
             return;
         }
-        let follows = self.catch_up(journal_set);
-        self.note(follows, version);
+        let followed = self.catch_up(journal_set);
+        self.note(followed);
     }
 
     fn lacks_any(&self) -> bool {
@@ -177,7 +187,7 @@ impl<R: Wait + time::Clock, B: JournalSession + Drop> Membership<B> for SetMembe
 
     fn lacks(&self, named: Option<Instance>) -> bool {
         match named {
-            Some(instance) => self.journal_registry.lacks(instance, self.seen),
+            Some(instance) => self.journal_registry.lacks(self.rt, instance, self.seen),
             None => self.is_behind,
         }
     }

@@ -1,13 +1,30 @@
-//! The rotation manager's knowledge of a journal.
+//! Observations of a journal, for the rotation.
+
+ghost use Rattle.std.specs.Prelude.{◌≡◌};
 
 use crate::journal::ServedJournal;
 use crate::scanning::{Scan, ScanKind, Scanned};
-use lra_rolls::{Counts, Rest, is_archived, longer_pause};
+use lra_model::Memory;
+use lra_rotation::{Counts, Observation, has_reached, longer_pause};
 use lra_sessions::JournalSession;
+use std::alloc::Global;
 use std::io::ErrorKind;
 use std::sync::{Arc, Wait};
 
-/// A journal, with what the rotation manager knows of it.
+/// Bounds by which the journals of a folder are observed.
+#[derive(Clone, Copy, Debug, PartialEq, Eq)]
+pub struct JournalBounds {
+    /// Counts of the newest journal at which the next one replaces it.
+    pub most: Counts,
+    /// Counts that a journal may have at most.
+    pub limit: Counts,
+    /// Milliseconds that a journal stays after its last entry.
+    pub remember: u64,
+    /// Mark that the service ends once all journals are done, so that the newest is scanned too.
+    pub drains: bool,
+}
+
+/// A journal, with what was observed of it.
 #[derive(Drop)]
 pub struct JournalMonitor<B> {
     pub journal: Arc<ServedJournal<B>>,
@@ -17,17 +34,21 @@ pub struct JournalMonitor<B> {
     /// Number of bytes at the last check, and the moment since which the journal has had them, in milliseconds.
     bytes: u64,
     since: u64,
+    /// Mark that the next journal is to replace it.
+    is_full: bool,
     /// Scan of the journal, unless it found something that is left to be done.
     scan: Option<Scan>,
-    /// Reason why the last try to archive the journal failed, if it did.
+    /// Mark that the journal has left the set. Its file is closed, so it stays as it was.
+    has_left: bool,
+    /// Reason why the last try to withdraw or archive the journal failed, if it did.
     why: Option<ErrorKind>,
-    /// Milliseconds of the pause until the next try to archive, and the moment from which on it may be made.
+    /// Milliseconds of the pause until the next try, and the moment from which on it may be made.
     pause: u64,
     retry: u64,
 }
 
 impl<B: Drop> JournalMonitor<B> {
-    /// Returns a journal of which nothing is known yet, at a moment.
+    /// Returns a journal of which nothing was observed yet, at a moment.
     pub fn new(journal: Arc<ServedJournal<B>>, now: u64) -> JournalMonitor<B> {
         JournalMonitor {
             journal,
@@ -35,15 +56,17 @@ impl<B: Drop> JournalMonitor<B> {
             members: 0,
             bytes: 0,
             since: now,
+            is_full: false,
             scan: None,
+            has_left: false,
             why: None,
             pause: 0,
             retry: 0,
         }
     }
 
-    /// Records that archiving failed at a moment. The next try comes after a pause, which is longer each time. Returns
-    /// whether the reason is another one than before.
+    /// Records that a try to withdraw or archive the journal failed at a moment. The next one comes after a pause,
+    /// which is longer each time. Returns whether the reason is another one than before.
     pub fn put_off(&mut self, why: ErrorKind, now: u64) -> bool {
         self.pause = longer_pause(self.pause);
         self.retry = now.saturating_add(self.pause);
@@ -52,19 +75,16 @@ impl<B: Drop> JournalMonitor<B> {
         is_new
     }
 
-    /// Returns whether the last try to archive the journal failed.
-    pub fn is_put_off(&self) -> bool {
-        self.why.is_some()
+    /// Records that the next journal is to replace this one, though it hasn't reached the counts for that.
+    pub fn give_way(&mut self) {
+        self.is_full = true;
     }
 
-    /// Returns whether archiving may be tried at a moment.
-    pub fn may_be_tried(&self, now: u64) -> bool {
-        self.retry <= now
-    }
-
-    /// Ends writing to the journal's file, if it has as many bytes as at the last check. Returns whether it did.
-    pub fn close(&self) -> bool {
-        self.journal.file.close_at(self.bytes)
+    /// Ends writing to the journal's file for good, if it has as many bytes as at the last check. Returns whether it
+    /// did: then the journal has left the set.
+    pub fn leave(&mut self) -> bool {
+        self.has_left = self.journal.file.close_at(self.bytes);
+        self.has_left
     }
 
     /// Returns the journal.
@@ -75,7 +95,9 @@ impl<B: Drop> JournalMonitor<B> {
             members: _,
             bytes: _,
             since: _,
+            is_full: _,
             scan: _,
+            has_left: _,
             why: _,
             pause: _,
             retry: _,
@@ -101,7 +123,7 @@ impl<B: Drop> JournalMonitor<B> {
 
 impl<B: JournalSession + Drop> JournalMonitor<B> {
     /// Counts the journal's actions, members, entries and bytes.
-    pub fn counts<R: Wait>(&mut self, rt: &R) -> Counts {
+    fn counts<R: Wait>(&mut self, rt: &R) -> Counts {
         self.actions = self.journal.count(rt, ScanKind::Action, self.actions);
         self.members = self.journal.count(rt, ScanKind::Member, self.members);
         Counts {
@@ -109,15 +131,6 @@ impl<B: JournalSession + Drop> JournalMonitor<B> {
             members: self.members,
             entries: self.journal.count_entries(),
             bytes: self.journal.bytes(),
-        }
-    }
-
-    /// Counts the journal's actions, members, entries and bytes, if it has grown since the last check.
-    pub fn news<R: Wait>(&mut self, rt: &R, now: u64) -> Option<Counts> {
-        if self.has_moved(now) {
-            Some(self.counts(rt))
-        } else {
-            None
         }
     }
 
@@ -136,19 +149,75 @@ impl<B: JournalSession + Drop> JournalMonitor<B> {
         }
     }
 
-    /// Returns whether the journal is to be archived now, as one that isn't the newest. A journal stays so many
-    /// milliseconds after its last entry.
-    pub fn is_done<R: Wait>(&mut self, rt: &R, now: u64, remember: u64) -> bool {
-        if self.has_moved(now) || !self.may_be_tried(now) {
-            return false;
+    /// Returns whether nothing is left to be done in the journal. It is scanned for that only once its last entry is so
+    /// old that the answer matters.
+    fn is_done<R: Wait>(&mut self, rt: &R, quiet: u64, remember: u64) -> bool {
+        self.has_left || (remember <= quiet && self.is_settled(rt))
+    }
+
+    /// Returns what is observed of the journal at a moment. One that has left the set is free once no thread has a
+    /// session of it any more: then its coordinator is ended.
+    pub fn observe<R: Wait>(
+        &mut self,
+        rt: &R,
+        now: u64,
+        bounds: &JournalBounds,
+        is_newest: bool,
+    ) -> Observation
+        ensures { result.instance ≡ self.old.journal.value.instance }
+    {
+        let instance = self.journal.instance.number();
+        let has_moved = self.has_moved(now);
+        if is_newest && has_moved && has_reached(&self.counts(rt), &bounds.most) {
+            self.is_full = true;
         }
         let quiet = now.saturating_sub(self.since);
-        let is_settled = quiet >= remember && self.is_settled(rt);
-        let rest = Rest {
-            is_newest: false,
-            is_settled,
+        let is_scanned = !has_moved && (bounds.drains || !is_newest);
+        Observation {
+            instance,
+            is_full: self.is_full,
+            is_near_end: self.journal.is_near_end(&bounds.limit),
+            is_settled: is_scanned && self.is_done(rt, quiet, bounds.remember),
+            is_free: self.has_left && self.journal.close(rt),
+            is_waiting: now < self.retry,
             quiet,
-        };
-        is_archived(&rest, remember)
+        }
     }
+}
+
+/// Returns whether an observation says more than that there is a journal. The rotation reads a missing observation as
+/// one that doesn't.
+fn matters(observation: &Observation) -> bool {
+    observation.is_full
+        || observation.is_near_end
+        || observation.is_settled
+        || observation.is_waiting
+}
+
+/// Returns what is observed of journals at a moment, the newest last, for those of which it matters. So a step takes
+/// time by their number, however many others there are. If `waits` is set, the newest waits; if `lags` is set, the
+/// others do.
+pub fn observe_all<R: Wait, B: JournalSession + Drop>(
+    rt: &R,
+    alloc: Global,
+    monitors: &mut Vec<JournalMonitor<B>>,
+    now: u64,
+    bounds: &JournalBounds,
+    waits: bool,
+    lags: bool,
+) -> Result<Vec<Observation>, Memory> {
+    let mut observations = Vec::new(alloc);
+    let newest = monitors.len().saturating_sub(1);
+    for place in 0..monitors.len() {
+        if let Some(monitor) = monitors.get_mut(place) {
+            let is_newest = place == newest;
+            let mut observation = monitor.observe(rt, now, bounds, is_newest);
+            let is_held = if is_newest { waits } else { lags };
+            observation.is_waiting = observation.is_waiting || is_held;
+            if matters(&observation) {
+                observations.push(observation)?;
+            }
+        }
+    }
+    Ok(observations)
 }

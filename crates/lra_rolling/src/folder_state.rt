@@ -453,12 +453,13 @@ impl<
     H: Notifier + EventSink,
     B: JournalSession + Drop,
 > FolderState<'s, 'a, R, H, B> {
-    /// Serves the connections of an accept queue.
-    fn answer_at(&self, accept_queue: &AcceptQueue) {
+    /// Serves the connections of an accept queue, as the connection worker of that number.
+    fn answer_at(&self, worker: u32, accept_queue: &AcceptQueue) {
         let mut set_members = SetMembers::new(
             self.rt,
             self.alloc,
             self.journal_registry,
+            worker,
             self.clock(),
         );
         let Some(journal_set) = set_members.begin(self.alloc) else {
@@ -512,7 +513,8 @@ impl<
     /// Works as the connection worker at that position.
     fn answer(&self, place: u32) {
         if let Some(accept_queue) = self.dispatcher.accept_queue(place) {
-            self.answer_at(accept_queue);
+            self.answer_at(place, accept_queue);
+            self.journal_registry.end(place);
             accept_queue.close(self.rt);
         }
         self.leave();

@@ -3,6 +3,7 @@
 #![tactic(auto)]
 
 mod checking;
+mod folder_driver;
 mod folder_state;
 mod operators_view;
 mod rotation_manager;

@@ -13,7 +13,7 @@ use lra_model::{Instance, Memory};
 use lra_operators_server::{Given, OperatorsServer, ProcessStatistics, Tallies, operators_order};
 use lra_outcomes::Attempt;
 use lra_overview::{Facts, Overview};
-use lra_registry::ServedJournal;
+use lra_registry::{NO_VERSION, ServedJournal};
 use lra_sessions::JournalSession;
 use std::alloc::Global;
 use std::sync::{Arc, Wait};
@@ -120,7 +120,7 @@ impl<'b, 's, 'a: 's, R: Wait + Clock, H, B> FolderView<'b, 's, 'a, R, H, B> {
         FolderView {
             folder_state,
             desks: Vec::new(alloc),
-            seen: 0,
+            seen: NO_VERSION,
             is_behind: false,
             clock,
             given: Given::new(),
@@ -219,7 +219,7 @@ impl<'s, 'a: 's, R: Wait + Clock, H, B: JournalSession + Drop> FolderView<'_, 's
         CounterFault::Refused(if self
             .folder_state
             .journal_registry
-            .lacks(instance, self.seen)
+            .lacks(self.folder_state.rt, instance, self.seen)
         {
             Refusal::Stopped
         } else {
@@ -242,11 +242,11 @@ impl<'s, 'a: 's, R: Wait + Clock, H, B: JournalSession + Drop> Overview
     }
 
     fn catch_up(&mut self) {
-        let version = self.folder_state.journal_registry.version();
-        if version == self.seen {
+        if self.folder_state.journal_registry.version() == self.seen {
             return;
         }
-        let Ok(journals) = self.folder_state.journal_registry.all(self.folder_state.rt) else {
+        let Ok((version, journals)) = self.folder_state.journal_registry.all(self.folder_state.rt)
+        else {
             self.is_behind = true;
             return;
         };

@@ -1,26 +1,26 @@
-//! Rotation manager: it prepares the next journal before it is needed, replaces the newest once that is full, and
-//! archives those that are done.
+//! Rotation manager: the thread that lets the rotation take its steps, and publishes the journals after each.
 
+ghost use Rattle.std.specs.Prelude.{◌≡◌, map, IfOk};
+ghost use Rattle.lra_rotation.specs.States as spec;
+
+use crate::folder_driver::FolderDriver;
 use crate::folder_state::FolderState;
-use lra_audits::RunFault;
 use lra_clocks::milliseconds;
-use lra_journal_factory::{JournalFactory, Opener, PreparedJournal};
+use lra_journal_factory::Opener;
 use lra_journal_folder::{RollingFault, rolling_line};
-use lra_logs::{Event, EventSink, FileTail, Level};
-use lra_model::Instance;
+use lra_logs::{Event, EventSink};
+use lra_model::Memory;
 use lra_opening::{Notifier, ServeFault};
-use lra_outcomes::Outcomes;
-use lra_registry::{JournalMonitor, ServedJournal};
-use lra_rolls::{Counts, Mark, is_full, mark_line};
+use lra_registry::{Following, JournalRegistry, PublishedSet, ServedJournal, published_set};
+use lra_rotation::{NewWork, Observation, Rotation, RotationAction, StepResult, step};
 use lra_sessions::JournalSession;
 use std::fs::File;
-use std::io::ErrorKind;
 use std::rt::Files;
 use std::sync::{Arc, Wait};
 use std::thread;
 use std::time::{Clock, Duration};
 
-/// Milliseconds between two iterations of the rotation manager.
+/// Milliseconds between two iterations of the rotation manager that found nothing to do.
 const LOOK: u64 = 50;
 
 /// Milliseconds until what failed is tried again.
@@ -31,36 +31,26 @@ const GIVE_WAY: u64 = 60_000;
 
 /// Rotation manager of the journals.
 #[derive(Drop)]
-pub(crate) struct RotationManager<'a, R, O, B> {
-    pub(crate) journal_factory: JournalFactory<'a, R, O>,
+pub(crate) struct RotationManager<'s, 'a, R, H, O, B> {
+    rotation: Rotation,
+    pub(crate) driver: FolderDriver<'s, 'a, R, H, O, B>,
     /// The served address, for the lines of faults.
     pub(crate) address: &'a str,
-    /// Counts of a journal at which the next one replaces it.
-    pub(crate) most: Counts,
-    /// Counts that a journal may have at most.
-    pub(crate) limit: Counts,
-    /// Milliseconds that a journal stays after its last entry.
-    pub(crate) remember: u64,
-    /// The journals, the newest last.
-    pub(crate) watches: Vec<JournalMonitor<B>>,
-    /// The journal that has left the registry. It is archived once no thread has a clerk of it.
-    pub(crate) leaving: Option<JournalMonitor<B>>,
+    /// Mark that the registry has the journals as they were after the last step.
+    is_published: bool,
     /// Number of times that a connection worker couldn't follow the registry, by the last check, and whether one can't.
-    pub(crate) falls: u64,
-    pub(crate) is_behind: bool,
-    /// Tails of the journals' files, from which writes are logged.
-    pub(crate) file_tails: Vec<FileTail>,
-    /// Journals that have no callback worker yet.
-    pub(crate) idle: Vec<Arc<ServedJournal<B>>>,
-    /// Mark that the newest journal has as much as it is to have, or can't be written any more.
-    pub(crate) is_full: bool,
+    falls: u64,
+    is_behind: bool,
+    /// Mark that a connection worker can't follow the registry now, so that no journal leaves.
+    lags: bool,
     /// Moment from which on the newest journal may be replaced because it can't be written.
-    pub(crate) gives_way: u64,
-    pub(crate) next: Option<PreparedJournal<B>>,
-    /// Moment from which on what failed is tried again.
-    pub(crate) retry: u64,
+    gives_way: u64,
+    /// Moment from which on the next journal, if making it failed, is made again.
+    retry: u64,
+    /// Moment from which on a callback worker, if none could be started, is started again.
+    thread_retry: u64,
     /// Mark that the reason of the failure was reported.
-    pub(crate) has_reported: bool,
+    has_reported: bool,
 }
 
 /// Returns the milliseconds of the steady clock, or 0 where it fails.
@@ -71,106 +61,123 @@ pub(crate) fn steady<R: Clock>(rt: &R) -> u64 {
     }
 }
 
-/// Returns the outcomes of the last callbacks of a journal's members. The journal has to be among these, or be the one
-/// that leaves.
-fn outcomes_of<'w, B: Drop>(
-    watches: &'w [JournalMonitor<B>],
-    leaving: Option<&'w JournalMonitor<B>>,
-    journal: Instance,
-) -> Option<&'w Outcomes> {
-    for watch in watches {
-        if watch.journal.instance.number() == journal.number() {
-            return Some(&watch.journal.outcomes);
+/// Transfers to the rotation which versions the connection workers follow. One that memory is refused for counts as
+/// one that answers nothing until the next call; a journal is archived only once no thread has a session of it anyway.
+fn follow_workers<B: Drop>(rotation: &mut Rotation, journal_registry: &JournalRegistry<B>) {
+    for worker in 0..journal_registry.workers() {
+        match journal_registry.following(worker) {
+            Following::Nothing => {}
+            Following::Version(version) => {
+                let _ = rotation.follow(worker as u64, version);
+            }
+            Following::Ended => rotation.refuse(worker as u64),
         }
-    }
-    match leaving {
-        Some(watch) if watch.journal.instance.number() == journal.number() => {
-            Some(&watch.journal.outcomes)
-        }
-        _ => None,
     }
 }
 
-impl<'a, R, O, B> RotationManager<'a, R, O, B> {
+impl<'s, 'a, R, H, O, B> RotationManager<'s, 'a, R, H, O, B> {
+    /// Returns the manager of a rotation that begins, at a served address.
+    pub(crate) fn new(
+        rotation: Rotation,
+        driver: FolderDriver<'s, 'a, R, H, O, B>,
+        address: &'a str,
+    ) -> RotationManager<'s, 'a, R, H, O, B> {
+        RotationManager {
+            rotation,
+            driver,
+            address,
+            is_published: false,
+            falls: 0,
+            is_behind: false,
+            lags: false,
+            gives_way: 0,
+            retry: 0,
+            thread_retry: 0,
+            has_reported: false,
+        }
+    }
+}
+
+impl<'s, 'a, R, H: Notifier, O, B> RotationManager<'s, 'a, R, H, O, B> {
     /// Reports a fault, unless one was reported since the last journal was prepared, and schedules the next try.
-    fn notify<H: Notifier>(&mut self, notifier: &H, fault: RollingFault, now: u64) {
+    fn notify(&mut self, fault: RollingFault, now: u64) {
         self.retry = now.saturating_add(RETRY);
         if self.has_reported {
             drop(fault);
             return;
         }
         self.has_reported = true;
+        let journal_factory = &self.driver.journal_factory;
         let line = rolling_line(
-            self.journal_factory.alloc,
+            journal_factory.alloc,
             fault,
             self.address,
-            self.journal_factory.folder.path,
+            journal_factory.folder.path,
         );
         if let Ok(line) = line {
-            notifier.notify(line.as_str());
+            self.driver.notifier.notify(line.as_str());
         }
     }
 }
 
-impl<'a, R: Wait, O, B> RotationManager<'a, R, O, B> {
-    /// Fails all journals once the folder has another owner. Then it closes the accept queues, so that the connection
-    /// workers end.
-    fn guard<H>(&self, folder_state: &FolderState<'_, 'a, R, H, B>) {
-        if self.journal_factory.storage.fail_if_lost(folder_state.rt) {
-            folder_state.close();
+impl<'s, 'a, R: Wait, H, O, B: Drop> RotationManager<'s, 'a, R, H, O, B> {
+    /// Returns the journals as they are after the last step: those of the rotation's set are served.
+    fn published_set(&self) -> Result<PublishedSet<B>, Memory>
+        ensures version { IfOk result (λ set. set.version ≡ self.now.rotation.version) }
+        ensures served { IfOk result (λ set. map (λ journal. journal.value.instance) set.served.items
+            ≡ spec.set self.now.rotation) }
+    {
+        let alloc = self.driver.journal_factory.alloc;
+        let instances = self.rotation.set(alloc)?;
+        let version = self.rotation.version();
+        published_set(alloc, version, &instances, &self.driver.monitors)
+    }
+
+    /// Publishes the journals as they are after the last step. Returns whether the registry has them now.
+    pub(crate) fn publish(&mut self, journal_registry: &JournalRegistry<B>) -> bool {
+        if self.is_published {
+            return true;
         }
+        let Ok(set) = self.published_set() else {
+            return false;
+        };
+        let refuses_new = !matches!(self.rotation.new_work(), NewWork::Accepted(_));
+        journal_registry.publish(self.driver.journal_factory.rt, set, refuses_new);
+        self.is_published = true;
+        true
     }
 }
 
-impl<'a, R: Wait, O, B: Drop> RotationManager<'a, R, O, B> {
+impl<'s, 'a, R: Wait, H: EventSink, O, B: Drop> RotationManager<'s, 'a, R, H, O, B> {
     /// Logs what was written to the journals' files, and which of them take no more writes.
-    fn report<H: EventSink>(&mut self, folder_state: &FolderState<'_, 'a, R, H, B>) {
-        for file_tail in &mut self.file_tails {
-            let outcomes = outcomes_of(&self.watches, self.leaving.as_ref(), file_tail.journal());
-            file_tail.report(folder_state.rt, folder_state.notifier, outcomes);
-            if folder_state
-                .operators_context
-                .tallies
-                .has_stopped(file_tail.journal())
-            {
-                file_tail.stop(folder_state.notifier);
+    fn report(&mut self, folder_state: &FolderState<'_, 'a, R, H, B>) {
+        self.driver.report();
+        let notifier = self.driver.notifier;
+        for file_tail in &mut self.driver.file_tails {
+            let tallies = &folder_state.operators_context.tallies;
+            if tallies.has_stopped(file_tail.journal()) {
+                file_tail.stop(notifier);
             }
         }
     }
 
-    /// Logs the rest of what was written to a journal's file, and that the journal is archived.
-    fn close<J: EventSink>(&mut self, event_sink: &J, journal: &ServedJournal<B>) {
-        let instance = journal.instance;
-        let place = self.file_tails.iter().position(|file_tail| file_tail.journal().number()
-            == instance.number());
-        if let Some(place) = place {
-            let mut file_tail = self.file_tails.remove(place);
-            file_tail.report(self.journal_factory.rt, event_sink, Some(&journal.outcomes));
-        }
-        event_sink.note(&Event::JournalPutAway { journal: instance });
-    }
-
     /// Marks the newest journal as full if it can't be written any more, so that the next one replaces it. Does so at
     /// most once a minute.
-    fn give_way<H>(&mut self, folder_state: &FolderState<'_, 'a, R, H, B>, now: u64) {
+    fn give_way(&mut self, folder_state: &FolderState<'_, 'a, R, H, B>, now: u64) {
         if now < self.gives_way {
             return;
         }
-        let is_stopped = match self.watches.last() {
-            Some(newest) => folder_state
-                .operators_context
-                .tallies
-                .has_stopped(newest.journal.instance),
-            None => false,
-        };
-        if is_stopped {
-            self.is_full = true;
+        let tallies = &folder_state.operators_context.tallies;
+        if let Some(newest) = self.driver.monitors.last_mut()
+            && tallies.has_stopped(newest.journal.instance)
+        {
+            newest.give_way();
             self.gives_way = now.saturating_add(GIVE_WAY);
         }
     }
 
     /// Logs when a connection worker can't follow the registry, and when all follow it again.
-    fn note_behind<H: EventSink>(&mut self, folder_state: &FolderState<'_, 'a, R, H, B>) {
+    fn note_behind(&mut self, folder_state: &FolderState<'_, 'a, R, H, B>) {
         let falls = folder_state.journal_registry.falls();
         if falls != self.falls && !self.is_behind {
             self.is_behind = true;
@@ -184,401 +191,145 @@ impl<'a, R: Wait, O, B: Drop> RotationManager<'a, R, O, B> {
     }
 }
 
-impl<'a, R: Wait, O, B: JournalSession + Drop> RotationManager<'a, R, O, B> {
-    /// Marks the newest journal as full, if it has grown and its counts have reached those for rotation.
-    fn measure(&mut self, now: u64) {
-        let rt = self.journal_factory.rt;
-        if let Some(newest) = self.watches.last_mut()
-            && let Some(counts) = newest.news(rt, now)
-            && is_full(&counts, &self.most)
-        {
-            self.is_full = true;
-        }
-    }
-
-    /// Returns whether nothing is left to be done in any journal, for as long as each stays. A journal that can't be
-    /// archived for now was done before.
-    fn is_drained(&mut self, now: u64) -> bool {
-        let rt = self.journal_factory.rt;
-        let remember = self.remember;
-        if self
-            .leaving
-            .as_ref()
-            .is_some_and(|watch| !watch.is_put_off())
-        {
-            return false;
-        }
-        let older = self.watches.len().saturating_sub(1);
-        for place in 0..older {
-            if !self
-                .watches
-                .get(place)
-                .is_some_and(|watch| watch.is_put_off())
-            {
-                return false;
+impl<'s, 'a, R: Wait, H: Notifier, O, B: Drop> RotationManager<'s, 'a, R, H, O, B> {
+    /// Acts on an action that was done: the service ends if the rotation says so.
+    fn conclude(&mut self, folder_state: &FolderState<'_, 'a, R, H, B>, action: RotationAction) {
+        self.is_published = false;
+        match action {
+            RotationAction::Prepare(_) => self.has_reported = false,
+            RotationAction::Fail => folder_state.close(),
+            RotationAction::End => {
+                let journal_factory = &self.driver.journal_factory;
+                let path = journal_factory.folder.path;
+                if let Ok(line) = format!(in journal_factory.alloc; "lra: {path} is drained\n") {
+                    self.driver.notifier.notify(line.as_str());
+                }
+                folder_state.ending.ask();
             }
-        }
-        match self.watches.last_mut() {
-            Some(newest) => newest.is_done(rt, now, remember),
-            None => false,
-        }
-    }
-
-    /// Ends a service that drains, once nothing is left to be done.
-    fn end_drained<H: Notifier>(&mut self, folder_state: &FolderState<'_, 'a, R, H, B>, now: u64) {
-        if !folder_state.journal_registry.is_draining()
-            || folder_state.ending.is_asked()
-            || !self.is_drained(now)
-        {
-            return;
-        }
-        let path = self.journal_factory.folder.path;
-        if let Ok(line) = format!(in self.journal_factory.alloc; "lra: {path} is drained\n") {
-            folder_state.notifier.notify(line.as_str());
-        }
-        folder_state.ending.ask();
-    }
-}
-
-impl<'a, R: Files<File = File> + AllocGlobal + Clone + Drop, O, B: Drop> RotationManager<
-    'a,
-    R,
-    O,
-    B,
-> {
-    /// Reports the mark that a nearly full journal has reached.
-    fn report_mark<H: Notifier>(&self, notifier: &H, journal: &ServedJournal<B>, mark: Mark) {
-        let Ok(path) = self.journal_factory.folder.journal_path(journal.instance) else {
-            return;
-        };
-        if let Ok(line) = mark_line(self.journal_factory.alloc, path.as_str(), mark) {
-            notifier.notify(line.as_str());
-        }
-    }
-
-    /// Begins to log what is written to a journal's file after a position.
-    fn follow<J: EventSink>(&mut self, event_sink: &J, journal: Instance, at: u64) {
-        if !event_sink.hears(Level::Error) {
-            return;
-        }
-        let journal_factory = &self.journal_factory;
-        let Ok(path) = journal_factory.folder.journal_path(journal) else {
-            return;
-        };
-        let Ok(file) = File::open(journal_factory.rt, path.as_str()) else {
-            return;
-        };
-        if let Some(file_tail) = FileTail::of(
-            journal_factory.alloc,
-            file,
-            at,
-            journal,
-            event_sink,
-        ) {
-            // Without memory for it the journal isn't logged.
-            let _ = self.file_tails.push(file_tail);
-        }
-    }
-
-    /// Begins to log what is written to all journals' files from now on.
-    fn follow_all<J: EventSink>(&mut self, event_sink: &J) {
-        for place in 0..self.watches.len() {
-            let Some(watch) = self.watches.get(place) else {
-                return;
-            };
-            let (journal, at) = (watch.journal.instance, watch.journal.bytes());
-            self.follow(event_sink, journal, at);
-        }
-    }
-
-    /// Reports that a journal can't be archived for now.
-    fn report_put_off<H: Notifier + EventSink>(&self, notifier: &H, journal: Instance) {
-        notifier.note(&Event::ArchiveFailed { journal });
-        let Ok(path) = self.journal_factory.folder.journal_path(journal) else {
-            return;
-        };
-        let path = path.as_str();
-        if let Ok(line) = format!(in self.journal_factory.alloc; "lra: cannot put away {path}\n") {
-            notifier.notify(line.as_str());
-        }
-    }
-
-    /// Keeps a journal among the others, since it can't be archived. Reports that, if the reason is a new one.
-    fn put_off<H: Notifier + EventSink>(
-        &mut self,
-        notifier: &H,
-        place: usize,
-        why: ErrorKind,
-        now: u64,
-    ) {
-        let Some(watch) = self.watches.get_mut(place) else {
-            return;
-        };
-        let instance = watch.journal.instance;
-        if watch.put_off(why, now) {
-            self.report_put_off(notifier, instance);
-        }
-    }
-}
-
-impl<'a, R: Files<File = File> + AllocGlobal + Clone + Drop + Wait, O, B: Drop> RotationManager<
-    'a,
-    R,
-    O,
-    B,
-> {
-    /// Reserves room in nearly full journals for the ends of their actions.
-    fn reserve<H: Notifier>(&self, folder_state: &FolderState<'_, 'a, R, H, B>) {
-        let mut is_any = false;
-        for watch in &self.watches {
-            let journal = &watch.journal;
-            if let Some(mark) = journal.spare(&self.limit) {
-                self.report_mark(folder_state.notifier, journal, mark);
-            }
-            if let Some(mark) = journal.reserve(&self.limit) {
-                self.report_mark(folder_state.notifier, journal, mark);
-            }
-            is_any = is_any || journal.is_reserved();
-        }
-        folder_state.journal_registry.note_reserved(is_any);
-    }
-
-    /// Reserves room in nearly full journals, and begins to log what is written to the files.
-    pub(crate) fn begin<H: Notifier + EventSink>(
-        &mut self,
-        folder_state: &FolderState<'_, 'a, R, H, B>,
-    ) {
-        self.reserve(folder_state);
-        self.follow_all(folder_state.notifier);
-    }
-
-    /// Removes a journal that is done from the registry, and ends writing to it. Reserves room for it in the archive
-    /// first, so that little can fail later.
-    fn withdraw<H: Notifier + EventSink>(
-        &mut self,
-        folder_state: &FolderState<'_, 'a, R, H, B>,
-        place: usize,
-        now: u64,
-    ) {
-        let Some(watch) = self.watches.get(place) else {
-            return;
-        };
-        let instance = watch.journal.instance;
-        if let Err(error) = self.journal_factory.folder.keep_room(instance) {
-            self.put_off(folder_state.notifier, place, error.kind(), now);
-            return;
-        }
-        if !watch.close() {
-            self.journal_factory.folder.give_room(instance);
-            return;
-        }
-        folder_state
-            .journal_registry
-            .withdraw(self.journal_factory.rt, instance);
-        watch.journal.finish();
-        self.leaving = Some(self.watches.remove(place));
-    }
-
-    /// Moves the file of the journal that has left to the archive, once all of it is durable.
-    fn move_away(&self, instance: Instance) -> Result<(), ErrorKind> {
-        let kept = self
-            .journal_factory
-            .storage
-            .journals()
-            .keep_all(self.journal_factory.rt);
-        if !matches!(kept, Ok(true)) {
-            return Err(ErrorKind::Other);
-        }
-        match self.journal_factory.folder.archive(instance) {
-            Ok(()) => Ok(()),
-            Err(error) => Err(error.kind()),
+            _ => {}
         }
     }
 }
 
 impl<
+    's,
     'a,
-    R: Files<File = File> + AllocGlobal + Clone + Drop + Wait,
+    R: Files<File = File> + AllocGlobal + Clone + Drop + Wait + Clock,
+    H: Notifier + EventSink,
     O: Opener<OwnedSession = B>,
     B: JournalSession + Drop,
-> RotationManager<'a, R, O, B> {
-    /// Archives the journal that has left, if a try is due and no thread has a clerk of it any more.
-    fn archive<H: Notifier + EventSink>(
-        &mut self,
-        folder_state: &FolderState<'_, 'a, R, H, B>,
-        now: u64,
-    ) {
-        let Some(mut watch) = self.leaving.take() else {
-            return;
-        };
-        if !watch.may_be_tried(now) || !watch.journal.close(self.journal_factory.rt) {
-            self.leaving = Some(watch);
-            return;
+> RotationManager<'s, 'a, R, H, O, B> {
+    /// Returns what is observed of the journals at a moment. Without memory for it, returns nothing, if the folder is
+    /// this service's own: then no step is taken.
+    fn observe(&mut self, now: u64, is_own: bool) -> Option<Vec<Observation>> {
+        let waits = now < self.retry || self.driver.wants_thread();
+        match self.driver.observe(now, waits, self.lags) {
+            Ok(observations) => Some(observations),
+            Err(_) if is_own => None,
+            Err(_) => Some(Vec::new(self.driver.journal_factory.alloc)),
         }
-        let instance = watch.journal.instance;
-        match self.move_away(instance) {
-            Ok(()) => {
-                folder_state.journal_registry.forget();
-                self.close(folder_state.notifier, &watch.journal);
-                self.journal_factory.drop_journal(watch.into_journal());
-                // If a crash brings back its old name, the next start serves it again, and archives it once more.
-                let _ = self.journal_factory.folder.sync_ended();
+    }
+
+    /// Lets the rotation take a step. Returns its result, if there was memory for it.
+    fn take_step(&mut self, now: u64) -> StepResult {
+        let rt = self.driver.journal_factory.rt;
+        let is_own = !self.driver.journal_factory.storage.fail_if_lost(rt);
+        let Some(observations) = self.observe(now, is_own) else {
+            return StepResult::Nothing;
+        };
+        let moment = milliseconds(rt).unwrap_or(0);
+        step(
+            &mut self.rotation,
+            &mut self.driver,
+            moment,
+            is_own,
+            &observations,
+        )
+    }
+
+    /// Returns whether a journal is wanted before the service begins: there is none, or the newest is closed.
+    fn wants_newest(&self) -> bool {
+        self.driver.monitors.is_empty() || matches!(self.rotation.new_work(), NewWork::Full)
+    }
+
+    /// Closes those journals to new work that the rotation has closed, and begins one that accepts it, if none does.
+    pub(crate) fn open(&mut self) -> Result<(), RollingFault> {
+        let rt = self.driver.journal_factory.rt;
+        self.driver.close_all(&self.rotation);
+        for _ in rt.forever() {
+            if !self.wants_newest() {
+                break;
             }
-            Err(why) => {
-                let is_new = watch.put_off(why, now);
-                self.leaving = Some(watch);
-                if is_new {
-                    self.report_put_off(folder_state.notifier, instance);
+            match self.take_step(steady(rt)) {
+                StepResult::Done(_) => {}
+                StepResult::Nothing => return Err(RollingFault::Here(ServeFault::Address)),
+                StepResult::Failed(_) => {
+                    if let Some(fault) = self.driver.fault.take() {
+                        return Err(fault);
+                    }
                 }
             }
         }
-    }
-
-    /// Goes on to archive the journal that leaves. If none leaves and each worker follows the registry, removes the
-    /// first journal that is done.
-    fn archive_ended<H: Notifier + EventSink>(
-        &mut self,
-        folder_state: &FolderState<'_, 'a, R, H, B>,
-        now: u64,
-    ) {
-        if self.leaving.is_some() {
-            self.archive(folder_state, now);
-            return;
-        }
-        if folder_state.journal_registry.lags() {
-            return;
-        }
-        let rt = self.journal_factory.rt;
-        let older = self.watches.len().saturating_sub(1);
-        for place in 0..older {
-            let is_done = match self.watches.get_mut(place) {
-                Some(watch) => watch.is_done(rt, now, self.remember),
-                None => false,
-            };
-            if is_done {
-                self.withdraw(folder_state, place, now);
-                return;
-            }
-        }
-    }
-
-    /// Discards the prepared journal, if there is one.
-    fn let_go(&mut self) {
-        if let Some(ready) = self.next.take() {
-            self.journal_factory.discard(ready);
-        }
-    }
-
-    /// Gives the prepared journal its name, and adds it to the registry.
-    fn put_in_place<H>(
-        &self,
-        folder_state: &FolderState<'_, 'a, R, H, B>,
-        ready: &mut PreparedJournal<B>,
-    ) -> Result<(), RollingFault> {
-        self.journal_factory.name(ready)?;
-        let theirs = Arc::try_clone(&ready.journal)?;
-        folder_state
-            .journal_registry
-            .publish(self.journal_factory.rt, theirs)?;
         Ok(())
     }
 
-    /// Replaces the newest journal by the prepared one, if the newest is full. New work goes to the old one until that
-    /// succeeds.
-    fn rotate<H: Notifier + EventSink>(
-        &mut self,
-        folder_state: &FolderState<'_, 'a, R, H, B>,
-        now: u64,
-    ) {
-        if !self.is_full || now < self.retry || self.watches.reserve(1).is_err() {
-            return;
+    /// Lets the rotation take a step, once the journals are published as they are after the last one. Returns whether
+    /// something was done.
+    fn go_on(&mut self, folder_state: &FolderState<'_, 'a, R, H, B>, now: u64) -> bool {
+        if !self.publish(folder_state.journal_registry) {
+            return false;
         }
-        let Some(mut ready) = self.next.take() else {
-            return;
-        };
-        match self.put_in_place(folder_state, &mut ready) {
-            Ok(()) => {
-                let journal = ready.into_journal();
-                let instance = journal.instance;
-                folder_state
-                    .notifier
-                    .note(&Event::JournalRolled { journal: instance });
-                self.follow(folder_state.notifier, instance, 0);
-                let pushed = self.watches.push(JournalMonitor::new(journal, now));
-                self.is_full = pushed.is_err();
+        match self.take_step(now) {
+            StepResult::Nothing => false,
+            StepResult::Done(action) => {
+                self.conclude(folder_state, action);
+                self.publish(folder_state.journal_registry)
             }
-            Err(fault) => {
-                self.next = Some(ready);
-                self.notify(folder_state.notifier, fault, now);
+            StepResult::Failed(_) => {
+                if let Some(fault) = self.driver.fault.take() {
+                    self.notify(fault, now);
+                }
+                false
             }
         }
     }
-}
 
-impl<
-    'a,
-    R: Files<File = File> + AllocGlobal + Clone + Drop + Wait + Clock,
-    O: Opener<OwnedSession = B>,
-    B: JournalSession + Drop,
-> RotationManager<'a, R, O, B> {
-    /// Prepares the next journal, if there is none. It has no callback worker yet.
-    fn prepare<H: Notifier + EventSink>(
-        &mut self,
-        folder_state: &FolderState<'_, 'a, R, H, B>,
-        now: u64,
-    ) -> Result<(), RollingFault> {
-        if self.next.is_some() || now < self.retry {
-            return Ok(());
-        }
-        self.idle.reserve(1)?;
-        self.journal_factory.folder.require_spare_files()?;
-        let ready = self
-            .journal_factory
-            .make(milliseconds(folder_state.rt).unwrap_or(0))?;
-        let Ok(theirs) = Arc::try_clone(&ready.journal) else {
-            self.journal_factory.discard(ready);
-            return Err(out_of_memory());
-        };
-        self.next = Some(ready);
-        self.has_reported = false;
-        self.idle.push(theirs)?;
-        Ok(())
-    }
-
-    /// Prepares the next journal. If each journal has a callback worker, maintains the others too, and sleeps for a
-    /// while.
-    fn look<H: Notifier + EventSink>(&mut self, folder_state: &FolderState<'_, 'a, R, H, B>) {
+    /// Maintains the journals, and sleeps for a while if nothing was to be done.
+    fn look(&mut self, folder_state: &FolderState<'_, 'a, R, H, B>) {
         let now = steady(folder_state.rt);
-        if let Err(fault) = self.prepare(folder_state, now) {
-            self.notify(folder_state.notifier, fault, now);
-        }
-        if self.idle.is_empty() {
-            self.report(folder_state);
-            self.measure(now);
-            self.give_way(folder_state, now);
-            self.reserve(folder_state);
-            self.rotate(folder_state, now);
-            self.archive_ended(folder_state, now);
-            self.end_drained(folder_state, now);
-            self.note_behind(folder_state);
-            self.guard(folder_state);
+        self.report(folder_state);
+        self.driver.spare();
+        self.give_way(folder_state, now);
+        follow_workers(&mut self.rotation, folder_state.journal_registry);
+        self.lags = folder_state.journal_registry.lags();
+        let is_busy = self.go_on(folder_state, now);
+        self.note_behind(folder_state);
+        if !is_busy {
             thread::sleep(folder_state.rt, Duration::from_millis(LOOK));
         }
     }
 
+    /// Returns a journal that has no callback worker, unless starting one has failed just now.
+    fn idle(&self, now: u64) -> Option<Arc<ServedJournal<B>>> {
+        if now < self.thread_retry {
+            return None;
+        }
+        Arc::try_clone(self.driver.idle.last()?).ok()
+    }
+
     /// Maintains the journals until one has no callback worker, and returns that one. Returns nothing once the service
     /// is to end, or no connection worker is left.
-    pub(crate) fn next<H: Notifier + EventSink>(
+    pub(crate) fn next(
         &mut self,
         folder_state: &FolderState<'_, 'a, R, H, B>,
     ) -> Option<Arc<ServedJournal<B>>> {
         for _ in folder_state.rt.forever() {
             if folder_state.ending.is_asked() || folder_state.ending.is_over() {
                 self.report(folder_state);
-                self.let_go();
+                self.driver.discard();
                 return None;
             }
-            if let Some(journal) = self.idle.pop() {
+            if let Some(journal) = self.idle(steady(folder_state.rt)) {
                 return Some(journal);
             }
             self.look(folder_state);
@@ -586,14 +337,18 @@ impl<
         None
     }
 
-    /// Discards the next journal, for which no thread could be started. It is prepared anew after a pause.
-    pub(crate) fn give_up<H>(&mut self, folder_state: &FolderState<'_, 'a, R, H, B>) {
-        self.let_go();
-        self.retry = steady(folder_state.rt).saturating_add(RETRY);
+    /// Records whether a callback worker was started for the journal that `next` returned. If none could be, the
+    /// journal waits for one, and no work is begun in it.
+    pub(crate) fn note_thread(
+        &mut self,
+        folder_state: &FolderState<'_, 'a, R, H, B>,
+        is_started: bool,
+    ) {
+        folder_state.note_thread(is_started);
+        if is_started {
+            drop(self.driver.idle.pop());
+        } else {
+            self.thread_retry = steady(folder_state.rt).saturating_add(RETRY);
+        }
     }
-}
-
-/// Returns the fault of refused memory.
-fn out_of_memory() -> RollingFault {
-    RollingFault::Here(ServeFault::Run(RunFault::Memory))
 }

@@ -3,6 +3,7 @@
 ghost use Rattle.std.specs.Prelude.{◌≡◌, true, All, None};
 ghost use Rattle.lra_opening.specs.Places.{IsRead};
 
+use crate::folder_driver::FolderDriver;
 use crate::folder_state::{FolderState, roles_of};
 use crate::operators_view::OperatorsContext;
 use crate::rotation_manager::{RotationManager, steady};
@@ -16,15 +17,17 @@ use lra_event_loop::AcceptQueue;
 use lra_folders::stray_line;
 use lra_ids::Base;
 use lra_journal_factory::{
-    FolderOptions, GivenUpNotes, JournalFactory, Opener, OpeningContext, first_open, retire,
+    FolderOptions, GivenUpNotes, JournalFactory, Opener, OpeningContext, first_open,
 };
-use lra_journal_folder::{Contents, Folder, GivenUp, RollingFault, Sound, Unsound, audit_all};
+use lra_journal_folder::{
+    Contents, Folder, GivenUp, RollingFault, Sound, Unsound, audit_all, told,
+};
 use lra_logs::{Event, EventSink};
-use lra_model::Instance;
+use lra_model::{Instance, Memory};
 use lra_opening::{Notifier, ServeFault};
 use lra_operators_server::{OperatorsServer, Tallies};
-use lra_registry::{JournalMonitor, JournalRegistry, ServedJournal};
-use lra_rolls::Counts;
+use lra_registry::{JournalBounds, JournalMonitor, JournalRegistry, ServedJournal, observe_all};
+use lra_rotation::{Counts, FoundJournals, Rotation, RotationSettings, next_instance};
 use lra_service::{
     AccessPolicy, ServiceInput, ServiceSite, SocketAcceptor, end_of, fit_descriptors, limits_of,
     listener_at, make_socket_acceptor, site_at,
@@ -158,49 +161,72 @@ fn latest(sounds: &[Sound]) -> u64 {
     latest
 }
 
-impl<'a, R, V, H> FolderService<'a, R, V, H> {
-    /// Returns the rotation manager of the journals.
-    fn rotation_manager<O, B>(
-        &self,
-        journal_factory: JournalFactory<'a, R, O>,
-        watches: Vec<JournalMonitor<B>>,
-    ) -> RotationManager<'a, R, O, B> {
-        let limit = limit_of(&self.settings);
-        RotationManager {
-            journal_factory,
-            address: self.address,
-            most: most_of(&self.settings, &limit),
-            limit,
-            remember: self.settings.remember_seconds.saturating_mul(1_000),
-            watches,
-            leaving: None,
-            falls: 0,
-            is_behind: false,
-            file_tails: Vec::new(self.alloc),
-            idle: Vec::new(self.alloc),
-            is_full: false,
-            gives_way: 0,
-            next: None,
-            retry: 0,
-            has_reported: false,
-        }
+/// Returns the numbers of instances.
+fn numbers_of(alloc: Global, instances: &[Instance]) -> Result<Vec<u64>, Memory> {
+    let mut numbers = Vec::new(alloc);
+    for instance in instances {
+        numbers.push(instance.number())?;
     }
+    Ok(numbers)
 }
 
-impl<R: Wait, V, H> FolderService<'_, R, V, H> {
-    /// Returns the registry of the journals.
-    fn journal_registry<B: Drop>(
+impl<'a, R, V, H> FolderService<'a, R, V, H> {
+    /// Returns the settings of the folder's rotation.
+    fn rotation_settings(&self) -> RotationSettings {
+        RotationSettings {
+            site: u16::try_from(self.settings.site).unwrap_or(u16::MAX),
+            remember: self.settings.remember_seconds.saturating_mul(1_000),
+            rolls: true,
+            drains: self.folder_options.drains,
+        }
+    }
+
+    /// Returns the bounds by which the journals are observed.
+    fn bounds(&self) -> JournalBounds {
+        let limit = limit_of(&self.settings);
+        JournalBounds {
+            most: most_of(&self.settings, &limit),
+            limit,
+            remember: self.rotation_settings().remember,
+            drains: self.folder_options.drains,
+        }
+    }
+
+    /// Returns what was found of the folder's journals. Those before the first of these numbers accept no new work.
+    /// What was being prepared has been removed.
+    fn found(
         &self,
-        watches: &[JournalMonitor<B>],
-    ) -> Result<JournalRegistry<B>, RollingFault> {
-        let journal_registry = JournalRegistry::new(self.alloc);
-        if self.folder_options.drains {
-            journal_registry.drain();
+        contents: &Contents,
+        newest: Instance,
+        first: u64,
+    ) -> Result<FoundJournals, Memory> {
+        Ok(FoundJournals {
+            newest: newest.number(),
+            first,
+            journals: numbers_of(self.alloc, &contents.journals)?,
+            prepared: Vec::new(self.alloc),
+            ended: numbers_of(self.alloc, &contents.ended)?,
+        })
+    }
+
+    /// Returns a driver of the rotation of the journals.
+    fn driver<O, B>(
+        &self,
+        journal_factory: JournalFactory<'a, R, O>,
+        monitors: Vec<JournalMonitor<B>>,
+    ) -> FolderDriver<'a, 'a, R, H, O, B> {
+        FolderDriver {
+            journal_factory,
+            notifier: self.notifier,
+            bounds: self.bounds(),
+            monitors,
+            prepared: None,
+            idle: Vec::new(self.alloc),
+            file_tails: Vec::new(self.alloc),
+            has_begun: false,
+            fault: None,
+            now: 0,
         }
-        for watch in watches {
-            journal_registry.publish(self.rt, Arc::try_clone(&watch.journal)?)?;
-        }
-        Ok(journal_registry)
     }
 }
 
@@ -237,29 +263,36 @@ impl<R, V, H: Notifier> FolderService<'_, R, V, H> {
 }
 
 impl<'a, R: Files<File = File> + AllocGlobal + Clone + Drop, V, H> FolderService<'a, R, V, H> {
-    /// Returns the factory that prepares the next journals, or a fault if there is no next instance.
-    fn journal_factory<O: Drop>(
-        &self,
-        storage: &'a Storage,
-        opener: O,
-        contents: &Contents,
-        moment: u64,
-    ) -> Result<JournalFactory<'a, R, O>, RollingFault> {
-        let newest = self.folder.newest(contents)?;
-        let Some(newest) = Instance::new(newest) else {
-            return Err(RollingFault::Here(ServeFault::Address));
-        };
-        let journal_factory = JournalFactory {
+    /// Returns the factory that prepares the next journals.
+    fn journal_factory<O>(&self, storage: &'a Storage, opener: O) -> JournalFactory<'a, R, O> {
+        JournalFactory {
             rt: self.rt,
             alloc: self.alloc,
             storage,
             opener,
             folder: self.folder,
-            site: u16::try_from(self.settings.site).unwrap_or(u16::MAX),
-            newest,
-        };
-        let _first = journal_factory.instance(moment)?;
-        Ok(journal_factory)
+        }
+    }
+
+    /// Returns a fault unless the folder's site has an instance that is greater than the newest, and no earlier than a
+    /// moment.
+    fn require_instance(&self, contents: &Contents, moment: u64) -> Result<(), RollingFault> {
+        let site = self.rotation_settings().site;
+        if next_instance(site, moment, self.newest(contents)?.number()).is_some() {
+            return Ok(());
+        }
+        let path = self.folder.path;
+        Err(told(format!(in self.alloc;
+            "lra: site {site} comes before the newest journal of {path}\n"
+        )))
+    }
+
+    /// Returns the greatest instance that the folder has or had.
+    fn newest(&self, contents: &Contents) -> Result<Instance, RollingFault> {
+        match Instance::new(self.folder.newest(contents)?) {
+            Some(newest) => Ok(newest),
+            None => Err(RollingFault::Here(ServeFault::Address)),
+        }
     }
 }
 
@@ -321,26 +354,40 @@ impl<
     'a,
     R: Files<File = File> + AllocGlobal + Clone + Drop + Wait + Clock,
     V: Notifier,
-    H,
+    H: Notifier + EventSink,
 > FolderService<'a, R, V, H> {
-    /// Opens the journals of a folder, and begins a new one if the newest accepts no new work. Journals before the
-    /// first of these numbers accept none.
-    fn open<O: Opener>(
+    /// Opens the journals of a folder and their rotation, and begins a new one if the newest accepts no new work.
+    /// Journals before the first of these numbers accept none.
+    fn open<O: Opener<OwnedSession = B> + Drop, B: JournalSession + Drop>(
         &self,
-        journal_factory: &mut JournalFactory<'a, R, O>,
+        storage: &'a Storage,
+        opener: O,
+        contents: &Contents,
         sounds: Vec<Sound>,
         first: u64,
         moment: u64,
-    ) -> Result<Vec<JournalMonitor<O::OwnedSession>>, RollingFault>
+    ) -> Result<RotationManager<'a, 'a, R, H, O, B>, RollingFault>
         requires { All (λ sound. IsRead None sound.opening) sounds.items }
     {
-        let mut watches = self.open_all(&journal_factory.opener, sounds, moment)?;
-        if !retire(&watches, first) {
-            let mut ready = journal_factory.make(moment)?;
-            journal_factory.name(&mut ready)?;
-            watches.push(JournalMonitor::new(ready.into_journal(), steady(self.rt)))?;
-        }
-        Ok(watches)
+        let found = self.found(contents, self.newest(contents)?, first)?;
+        let mut monitors = self.open_all(&opener, sounds, moment)?;
+        give_up_all(self.rt, &monitors, self.given_up)?;
+        let bounds = self.bounds();
+        let now = steady(self.rt);
+        let observations = observe_all(
+            self.rt,
+            self.alloc,
+            &mut monitors,
+            now,
+            &bounds,
+            false,
+            false,
+        )?;
+        let rotation = Rotation::open(self.alloc, self.rotation_settings(), found, &observations)?;
+        let driver = self.driver(self.journal_factory(storage, opener), monitors);
+        let mut rotation_manager = RotationManager::new(rotation, driver, self.address);
+        rotation_manager.open()?;
+        Ok(rotation_manager)
     }
 }
 
@@ -367,7 +414,7 @@ impl<
     >(
         &self,
         storage: &'a Storage,
-        rotation_manager: RotationManager<'a, R, O, B>,
+        rotation_manager: RotationManager<'a, 'a, R, H, O, B>,
         journal_registry: &JournalRegistry<B>,
         acceptor: SocketAcceptor,
         moment: u64,
@@ -440,17 +487,19 @@ impl<
             return Err(RollingFault::Here(ServeFault::Address));
         };
         let moment = now.max(latest(&sounds));
-        let mut journal_factory = self.journal_factory(storage, opener, contents, now)?;
+        self.require_instance(contents, now)?;
         let ServiceInput { listener, input } = entry;
         let listener = listener_at(self.rt, self.site.socket.as_str(), listener)?;
         self.folder.clear(contents)?;
         self.note_base()?;
         let first = first_open(self.folder_options.restored(self.folder, contents)?);
-        let watches = self.open(&mut journal_factory, sounds, first, moment)?;
-        give_up_all(self.rt, &watches, self.given_up)?;
-        let journal_registry = self.journal_registry(&watches)?;
+        let mut rotation_manager = self.open(storage, opener, contents, sounds, first, moment)?;
+        let drains = self.folder_options.drains;
+        let journal_registry = JournalRegistry::new(self.alloc, self.workers, drains)?;
+        if !rotation_manager.publish(&journal_registry) {
+            return Err(RollingFault::Here(ServeFault::Run(RunFault::Memory)));
+        }
         let acceptor = make_socket_acceptor(self.rt, self.alloc, listener, input)?;
-        let rotation_manager = self.rotation_manager(journal_factory, watches);
         self.serve_journal_registry(
             storage,
             rotation_manager,

@@ -24,7 +24,7 @@ use std::time::Clock;
 /// Starts a thread for each role, and a callback worker for each journal. Then it says that the service serves, and
 /// maintains the journals, with a callback worker for each new one, until the service is to end or no connection worker
 /// is left. If a thread can't be started before that is said, nothing is said, and the started threads end at once. If
-/// one can't be started later, the journal that it was wanted for is discarded, and prepared anew after a pause.
+/// one can't be started later, the prepared journal that it was wanted for isn't used until one is.
 pub(crate) fn work<
     'a,
     R: Files<File = File>
@@ -43,16 +43,16 @@ pub(crate) fn work<
     W: Write,
 >(
     folder_state: &FolderState<'_, 'a, R, H, B>,
-    rotation_manager: RotationManager<'a, R, O, B>,
+    rotation_manager: RotationManager<'_, 'a, R, H, O, B>,
     roles: &[FolderRole],
     writer: &mut W,
 ) -> Result<(), ServeFault> {
     let mut rotation_manager = rotation_manager;
-    let Ok(journals) = folder_state.journal_registry.all(folder_state.rt) else {
+    let Ok((_version, journals)) = folder_state.journal_registry.all(folder_state.rt) else {
         drop(rotation_manager);
         return Err(ServeFault::Run(RunFault::Memory));
     };
-    rotation_manager.idle = journals;
+    rotation_manager.driver.start_all(journals);
     let served = thread::scope(
         thread::scope_env(),
         folder_state.rt,
@@ -66,8 +66,8 @@ pub(crate) fn work<
                     return Err(folder_state.give_up());
                 }
             }
-            for _journal in 0..rotation_manager.idle.len() {
-                let Some(journal) = rotation_manager.idle.pop() else {
+            for _journal in 0..rotation_manager.driver.idle.len() {
+                let Some(journal) = rotation_manager.driver.idle.pop() else {
                     break;
                 };
                 let started = Builder::new().spawn_scoped(scope, move || {
@@ -83,10 +83,10 @@ pub(crate) fn work<
                 return Err(fault);
             }
             folder_state.notifier.note(&Event::Serving {
-                journals: rotation_manager.watches.len() as u64,
+                journals: rotation_manager.driver.monitors.len() as u64,
                 workers: folder_state.workers(),
             });
-            rotation_manager.begin(folder_state);
+            rotation_manager.driver.begin();
             folder_state.begin();
             for _ in folder_state.rt.forever() {
                 let Some(journal) = rotation_manager.next(folder_state) else {
@@ -96,10 +96,7 @@ pub(crate) fn work<
                     folder_state.carry(&journal);
                     drop(journal);
                 });
-                folder_state.note_thread(started.is_ok());
-                if started.is_err() {
-                    rotation_manager.give_up(folder_state);
-                }
+                rotation_manager.note_thread(folder_state, started.is_ok());
             }
             Ok(())
         },

@@ -1,0 +1,12 @@
+pub mod Changed
+pub mod Orders
+pub mod Suited
+pub mod Among
+pub mod Sound
+pub mod Standing
+pub mod Holding
+pub mod Whole
+pub mod Closed
+pub mod Opening
+pub mod Events
+pub mod Hex

@@ -1,0 +1,9 @@
+pub mod Names
+pub mod Limits
+pub mod Marks
+pub mod States
+pub mod Deciding
+pub mod Disks
+pub mod Runs
+pub mod Laws
+pub mod Steps
