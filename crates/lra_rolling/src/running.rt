@@ -192,8 +192,8 @@ impl<'a, R, V, H> FolderService<'a, R, V, H> {
         }
     }
 
-    /// Returns what was found of the folder's journals. Those before the first of these numbers accept no new work.
-    /// What was being prepared has been removed.
+    /// Returns what was found of the folder's journals, but for those that were being prepared, since these are removed
+    /// before. Those before the first of these numbers accept no new work.
     fn found(
         &self,
         contents: &Contents,
