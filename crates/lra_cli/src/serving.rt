@@ -16,7 +16,7 @@ use lra_reports::hint_line;
 use lra_service::{
     AccessPolicy, BoundAddress, LoggingNotifier, Notifier, ServeFault, ServiceInput,
     ServiceOutcome, StandardErrorNotifier, bound_address_at, check_place, fault_line,
-    fit_descriptors, put_text, serve_with,
+    fit_descriptors, put_text, put_texts, serve_with,
 };
 use lra_settings::{Settings, taken_by_file};
 use lra_storage::{Fenced, Timed};
@@ -100,27 +100,6 @@ fn settle_serving<
     }
 }
 
-/// Writes a line of an option's name and all its texts, if there are any.
-fn put_list<W: Write>(
-    alloc: Global,
-    word: Word,
-    texts: &[&str],
-    writer: &mut W,
-) -> Result<(), ServeFault> {
-    if texts.is_empty() {
-        return Ok(());
-    }
-    let name = word.name();
-    let mut line = format!(in alloc; "{name} = [")?;
-    for (place, text) in texts.iter().enumerate() {
-        line.push_str(if place == 0 { "\"" } else { ", \"" })?;
-        line.push_str(text)?;
-        line.push_str("\"")?;
-    }
-    line.push_str("]\n")?;
-    Ok(put(writer, line.as_bytes())?)
-}
-
 /// Writes the values of the options that are texts, without the bases, after the report of what would be served.
 pub(crate) fn put_words<W: Write>(
     alloc: Global,
@@ -132,7 +111,12 @@ pub(crate) fn put_words<W: Write>(
             continue;
         }
         if word.is_list() {
-            put_list(alloc, *word, &options.said.texts(alloc, *word)?, writer)?;
+            put_texts(
+                alloc,
+                word.name(),
+                &options.said.texts(alloc, *word)?,
+                writer,
+            )?;
         } else if let Some(text) = options.said.text(*word) {
             put_text(alloc, word.name(), text, writer)?;
         }
@@ -350,7 +334,7 @@ fn serve_file<
     access_policy: AccessPolicy<'_>,
     workers: u32,
     settings: Settings,
-    post: Option<&OperatorsServer>,
+    operators_server: Option<&OperatorsServer>,
     entry: ServiceInput<ChildStdout>,
     logging_notifier: &LoggingNotifier<R>,
     watcher: &'a H,
@@ -363,7 +347,7 @@ fn serve_file<
         &NamedFile::told(rt, file, watcher),
         workers,
         settings,
-        post,
+        operators_server,
         entry,
         logging_notifier,
         &mut io::writer(rt),
@@ -393,8 +377,8 @@ fn answer_until<
 >(rt: &R, options: &Options<'_>, input: Option<ChildStdout>, watcher: &H) -> u8 {
     // A fault of its options is reported after all others.
     let logging_notifier = logging_notifier_of(rt, &options.said);
-    let post = match operators_of(rt, options) {
-        Ok(post) => post,
+    let operators_server = match operators_of(rt, options) {
+        Ok(operators_server) => operators_server,
         Err(fault) => return report_port(rt, fault, options, watcher, &logging_notifier),
     };
     let bound_address = match bound_address_at(rt, rt.alloc(), options.address) {
@@ -418,7 +402,7 @@ fn answer_until<
             options,
             address.as_str(),
             access_configuration,
-            post.as_ref(),
+            operators_server.as_ref(),
             entry,
             &logging_notifier,
             watcher,
@@ -448,7 +432,7 @@ fn answer_until<
         access_configuration.access_policy(&options.also_bases),
         options.workers,
         settings,
-        post.as_ref(),
+        operators_server.as_ref(),
         entry,
         &logging_notifier,
         watcher,

@@ -1,8 +1,8 @@
 //! Server of the operators' port.
 
 use crate::connection::{OperatorsConnection, Step};
+use crate::operators_server::OperatorsServer;
 use crate::pace::Pace;
-use crate::post::OperatorsServer;
 use lra_clocks::seconds_on;
 use lra_operators::{Port, reply_to};
 use lra_overview::Overview;
@@ -118,9 +118,9 @@ impl OpenConnections {
     }
 
     /// Accepts new connections, a few at most.
-    fn admit<R: Clock>(&mut self, rt: &R, post: &OperatorsServer) {
+    fn admit<R: Clock>(&mut self, rt: &R, operators_server: &OperatorsServer) {
         for count in 0..AT_ONCE {
-            match post.listener.accept() {
+            match operators_server.listener.accept() {
                 Ok((stream, _)) => self.seat(rt, stream),
                 Err(_) => break,
             }
@@ -139,7 +139,7 @@ impl OpenConnections {
     /// Answers the visitor at a place, whose request is whole.
     fn answer<O: Overview, T: Turned>(
         &mut self,
-        post: &OperatorsServer,
+        operators_server: &OperatorsServer,
         overview: &mut O,
         turned: &T,
         place: usize,
@@ -152,7 +152,7 @@ impl OpenConnections {
         } = self;
         if let Some(connection) = connections.get_mut(place) {
             let came = connection.came.as_slice();
-            connection.reply = reply_to(*alloc, port, overview, &post.access(), came);
+            connection.reply = reply_to(*alloc, port, overview, &operators_server.access(), came);
             if let Some(code) = turned_code(connection.reply.as_slice()) {
                 turned.turned_away(code);
             }
@@ -181,7 +181,7 @@ impl OpenConnections {
     fn look_after<R: Clock, O: Overview, T: Turned>(
         &mut self,
         rt: &R,
-        post: &OperatorsServer,
+        operators_server: &OperatorsServer,
         overview: &mut O,
         turned: &T,
         place: usize,
@@ -189,7 +189,7 @@ impl OpenConnections {
         for _ in 0..STEPS {
             if self.is_waiting(place) && self.look.left > 0 {
                 self.look.left -= 1;
-                self.answer(post, overview, turned, place);
+                self.answer(operators_server, overview, turned, place);
             }
             match self.step(rt, place) {
                 Step::Gone => return false,
@@ -204,19 +204,19 @@ impl OpenConnections {
     fn turn<R: Clock, O: Overview, T: Turned>(
         &mut self,
         rt: &R,
-        post: &OperatorsServer,
+        operators_server: &OperatorsServer,
         overview: &mut O,
         turned: &T,
     ) {
         overview.catch_up();
         self.look = Look::new();
-        self.admit(rt, post);
+        self.admit(rt, operators_server);
         let mut place: usize = 0;
         for _connection in 0..MOST {
             if place >= self.connections.len() {
                 break;
             }
-            if self.look_after(rt, post, overview, turned, place) {
+            if self.look_after(rt, operators_server, overview, turned, place) {
                 place = place.saturating_add(1);
             } else {
                 self.dismiss(place);
@@ -228,13 +228,13 @@ impl OpenConnections {
     fn turn_and_rest<R: Clock, O: Overview, T: Turned>(
         &mut self,
         rt: &R,
-        post: &OperatorsServer,
+        operators_server: &OperatorsServer,
         overview: &mut O,
         turned: &T,
         pace: &mut Pace,
     ) -> Duration {
         let begun = Instant::now(rt);
-        self.turn(rt, post, overview, turned);
+        self.turn(rt, operators_server, overview, turned);
         let pause = self.look.pause();
         match (begun, Instant::now(rt)) {
             (Ok(begun), Ok(now)) => pace.rest(begun, now).max(pause),
@@ -249,7 +249,7 @@ impl OpenConnections {
 pub fn serve_operators<R: Wait + Clock, O: Overview, E: Ends, T: Turned>(
     rt: &R,
     alloc: Global,
-    post: &OperatorsServer,
+    operators_server: &OperatorsServer,
     overview: &mut O,
     ends: &E,
     turned: &T,
@@ -268,7 +268,7 @@ pub fn serve_operators<R: Wait + Clock, O: Overview, E: Ends, T: Turned>(
         if ends.is_over() {
             break;
         }
-        let rest = desk.turn_and_rest(rt, post, overview, turned, &mut pace);
+        let rest = desk.turn_and_rest(rt, operators_server, overview, turned, &mut pace);
         let _ = sleep(rt, rest);
     }
     drop(desk);

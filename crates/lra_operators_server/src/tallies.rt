@@ -3,7 +3,7 @@
 use crate::denied::Denied;
 use crate::histogram::{Measured, put_histogram};
 use crate::noted_journals::NotedJournals;
-use crate::post::OperatorsServer;
+use crate::operators_server::OperatorsServer;
 use crate::table::{Rows, Table, Words, label_of};
 use http::StatusCode;
 use lra_front::{ApiError, Operation};
@@ -143,9 +143,12 @@ fn new_syncs(alloc: Global, stopwatch: Stopwatch) -> Result<Arc<Syncs>, Memory> 
 }
 
 /// Makes the record of a disk's syncs from now on, if there is an operators' server.
-fn syncs_at(alloc: Global, post: Option<&OperatorsServer>) -> Result<Option<Arc<Syncs>>, Memory> {
-    match post {
-        Some(post) => Ok(Some(new_syncs(alloc, post.stopwatch())?)),
+fn syncs_at(
+    alloc: Global,
+    operators_server: Option<&OperatorsServer>,
+) -> Result<Option<Arc<Syncs>>, Memory> {
+    match operators_server {
+        Some(operators_server) => Ok(Some(new_syncs(alloc, operators_server.stopwatch())?)),
         None => Ok(None),
     }
 }
@@ -155,7 +158,7 @@ impl Tallies {
     /// it has an operators' server.
     pub fn new(
         alloc: Global,
-        post: Option<&OperatorsServer>,
+        operators_server: Option<&OperatorsServer>,
         sync_seconds: u64,
     ) -> Result<Tallies, Memory> {
         Ok(Tallies {
@@ -164,7 +167,7 @@ impl Tallies {
             callbacks: Table::new(alloc, &CALLBACKS)?,
             callback_times: Histogram::new(alloc, &TIMES)?,
             denied: Denied::new(),
-            syncs: syncs_at(alloc, post)?,
+            syncs: syncs_at(alloc, operators_server)?,
             sync_limit: sync_seconds.saturating_mul(1_000),
             stopped: NotedJournals::new(alloc)?,
             lost_workers: AtomicU64::new(0),

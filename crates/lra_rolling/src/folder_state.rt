@@ -189,7 +189,7 @@ impl<'s, 'a: 's, R: Wait, H, B> FolderState<'s, 'a, R, H, B> {
     }
 
     /// Syncs all that was written. Returns whether it is durable.
-    pub(crate) fn keep(&self) -> bool {
+    pub(crate) fn sync_all(&self) -> bool {
         matches!(self.journals().keep_all(self.rt), Ok(true))
     }
 
@@ -339,7 +339,7 @@ impl<'s, 'a: 's, R: Wait + time::Clock, H: EventSink, B: JournalSession + Drop> 
 > {
     /// Serves operators, if there is a server for them, until no connection worker is left.
     fn watch(&self) {
-        if let Some(post) = self.operators_context.post {
+        if let Some(operators_server) = self.operators_context.operators_server {
             let mut operators_view = FolderView::new(self.alloc, self, self.clock());
             let operators_refusal_logger = OperatorsRefusalLogger {
                 event_sink: self.notifier,
@@ -347,7 +347,7 @@ impl<'s, 'a: 's, R: Wait + time::Clock, H: EventSink, B: JournalSession + Drop> 
             serve_operators(
                 self.rt,
                 self.alloc,
-                post,
+                operators_server,
                 &mut operators_view,
                 &**self.ending,
                 &operators_refusal_logger,

@@ -4,6 +4,7 @@
 
 mod checking;
 mod folder_driver;
+mod folder_service;
 mod folder_state;
 mod operators_view;
 mod rotation_manager;

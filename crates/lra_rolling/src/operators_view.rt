@@ -22,7 +22,7 @@ use std::time::Clock;
 /// Operators' server, if there is one, and what it reports beside the histories.
 #[derive(Drop)]
 pub(crate) struct OperatorsContext<'a> {
-    pub(crate) post: Option<&'a OperatorsServer>,
+    pub(crate) operators_server: Option<&'a OperatorsServer>,
     pub(crate) base: &'a Base,
     pub(crate) limits: Limits,
     pub(crate) tallies: Tallies,
@@ -33,8 +33,8 @@ pub(crate) struct OperatorsContext<'a> {
 impl OperatorsContext<'_> {
     /// Returns the process statistics, if there is an operators' server.
     fn process_statistics(&self) -> ProcessStatistics {
-        match self.post {
-            Some(post) => post.process_statistics(),
+        match self.operators_server {
+            Some(operators_server) => operators_server.process_statistics(),
             None => ProcessStatistics::none(),
         }
     }
@@ -168,7 +168,7 @@ impl<'s, 'a: 's, R: Wait + Clock, H, B: JournalSession + Drop> FolderView<'_, 's
         };
         let told = desk.session.give(moment, order)?;
         desk.journal.wake_workers();
-        if self.folder_state.keep() {
+        if self.folder_state.sync_all() {
             Ok(told)
         } else {
             Err(CounterFault::Refused(Refusal::Stopped))

@@ -98,6 +98,28 @@ impl<'s, 'a, R, H, O, B> RotationManager<'s, 'a, R, H, O, B> {
     }
 }
 
+impl<'s, 'a, R, H, O, B: Drop> RotationManager<'s, 'a, R, H, O, B> {
+    /// Records that these journals have no callback worker yet.
+    pub(crate) fn start_all(&mut self, journals: Vec<Arc<ServedJournal<B>>>) {
+        self.driver.start_all(journals);
+    }
+
+    /// Returns how many journals have no callback worker yet.
+    pub(crate) fn count_idle(&self) -> usize {
+        self.driver.idle.len()
+    }
+
+    /// Takes a journal that has no callback worker yet, if there is one.
+    pub(crate) fn pop_idle(&mut self) -> Option<Arc<ServedJournal<B>>> {
+        self.driver.idle.pop()
+    }
+
+    /// Returns how many journals aren't archived.
+    pub(crate) fn count_journals(&self) -> u64 {
+        self.driver.monitors.len() as u64
+    }
+}
+
 impl<'s, 'a, R, H: Notifier, O, B> RotationManager<'s, 'a, R, H, O, B> {
     /// Reports a fault, unless one was reported since the last journal was prepared, and schedules the next try.
     fn notify(&mut self, fault: RollingFault, now: u64) {
@@ -315,6 +337,11 @@ impl<
             return None;
         }
         Arc::try_clone(self.driver.idle.last()?).ok()
+    }
+
+    /// Begins to log what is written to all journals' files.
+    pub(crate) fn begin(&mut self) {
+        self.driver.begin();
     }
 
     /// Maintains the journals until one has no callback worker, and returns that one. Returns nothing once the service

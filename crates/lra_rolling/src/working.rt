@@ -43,17 +43,15 @@ pub(crate) fn work<
     W: Write,
 >(
     folder_state: &FolderState<'_, 'a, R, H, B>,
-    rotation_manager: RotationManager<'_, 'a, R, H, O, B>,
+    rotation_manager: &mut RotationManager<'_, 'a, R, H, O, B>,
     roles: &[FolderRole],
     writer: &mut W,
 ) -> Result<(), ServeFault> {
-    let mut rotation_manager = rotation_manager;
     let Ok((_version, journals)) = folder_state.journal_registry.all(folder_state.rt) else {
-        drop(rotation_manager);
         return Err(ServeFault::Run(RunFault::Memory));
     };
-    rotation_manager.driver.start_all(journals);
-    let served = thread::scope(
+    rotation_manager.start_all(journals);
+    thread::scope(
         thread::scope_env(),
         folder_state.rt,
         |scope| -> Result<(), ServeFault>
@@ -66,8 +64,8 @@ pub(crate) fn work<
                     return Err(folder_state.give_up());
                 }
             }
-            for _journal in 0..rotation_manager.driver.idle.len() {
-                let Some(journal) = rotation_manager.driver.idle.pop() else {
+            for _journal in 0..rotation_manager.count_idle() {
+                let Some(journal) = rotation_manager.pop_idle() else {
                     break;
                 };
                 let started = Builder::new().spawn_scoped(scope, move || {
@@ -83,10 +81,10 @@ pub(crate) fn work<
                 return Err(fault);
             }
             folder_state.notifier.note(&Event::Serving {
-                journals: rotation_manager.driver.monitors.len() as u64,
+                journals: rotation_manager.count_journals(),
                 workers: folder_state.workers(),
             });
-            rotation_manager.driver.begin();
+            rotation_manager.begin();
             folder_state.begin();
             for _ in folder_state.rt.forever() {
                 let Some(journal) = rotation_manager.next(folder_state) else {
@@ -100,7 +98,5 @@ pub(crate) fn work<
             }
             Ok(())
         },
-    );
-    drop(rotation_manager);
-    served
+    )
 }

@@ -15,7 +15,7 @@ mod measure;
 mod notifier;
 mod operators_view;
 mod polls;
-mod post;
+mod roles;
 mod running;
 mod service_state;
 mod shares;

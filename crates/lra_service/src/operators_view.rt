@@ -117,7 +117,7 @@ impl<V: LockedService, R: Wait + Clock, L: WhichLock, H> Overview
         let moment = self.clock.now();
         match self.window.give(moment, &own) {
             // Nothing is reported of the order before it is durable.
-            Ok(told) if self.service_state.keep() => Ok(told),
+            Ok(told) if self.service_state.sync_all() => Ok(told),
             Ok(_) => Err(CounterFault::Refused(Refusal::Stopped)),
             Err(fault) => Err(fault),
         }

@@ -19,7 +19,7 @@ use crate::ending::end_of;
 use crate::measure::{JournalAtStart, ServiceStatistics, begun_from};
 use crate::notifier::NullNotifier;
 use crate::polls::{Polls, polls_of};
-use crate::post::spawn_all;
+use crate::roles::spawn_all;
 use crate::service_state::ServiceState;
 use crate::shares::limits_of;
 use crate::socket_acceptor::{SocketAcceptor, make_socket_acceptor};
@@ -129,12 +129,12 @@ fn open_disk<'a, R: Wait>(
 /// Returns the tallies of a service that begins.
 fn tallies_of(
     alloc: Global,
-    post: Option<&OperatorsServer>,
+    operators_server: Option<&OperatorsServer>,
     sync_seconds: u64,
 ) -> Result<Tallies, ServeFault>
     ensures { IfErr result IsOfNoScript }
 {
-    match Tallies::new(alloc, post, sync_seconds) {
+    match Tallies::new(alloc, operators_server, sync_seconds) {
         Ok(tallies) => Ok(tallies),
         Err(_) => Err(ServeFault::Run(RunFault::Memory)),
     }

@@ -13,7 +13,7 @@ use crate::measure::{Now, ServiceStatistics};
 use crate::notifier::{OperatorsRefusalLogger, lose_callback_worker, lose_worker};
 use crate::operators_view::OperatorsView;
 use crate::polls::Polls;
-use crate::post::Role;
+use crate::roles::Role;
 use crate::running::FileEnd;
 use crate::shares::{CallbackSettings, times_of};
 use lra_admission::KeyFiles;
@@ -160,7 +160,7 @@ impl<R, H> ServiceState<'_, R, H> {
     /// Returns the process statistics if there is an operators' server.
     fn process_statistics(&self) -> ProcessStatistics {
         match self.operators_server {
-            Some(post) => post.process_statistics(),
+            Some(operators_server) => operators_server.process_statistics(),
             None => ProcessStatistics::none(),
         }
     }
@@ -207,7 +207,7 @@ impl<R: Wait, H> ServiceState<'_, R, H> {
     }
 
     /// Wakes the callback workers, and syncs all that was written. Returns whether the sync succeeded.
-    pub(crate) fn keep(&self) -> bool {
+    pub(crate) fn sync_all(&self) -> bool {
         wake_workers(self.wakers.as_slice());
         matches!(self.journals.keep_all(self.rt), Ok(true))
     }
@@ -266,7 +266,7 @@ impl<R: Wait + Clock, H: EventSink> ServiceState<'_, R, H> {
     /// Answers operators, at an office whose lock the type names.
     fn watch_at<V: LockedService, Q: WhichLock>(
         &self,
-        post: &OperatorsServer,
+        operators_server: &OperatorsServer,
         office: &OfficeOf<V>,
         clerk: Clerk<V>,
     )
@@ -282,7 +282,7 @@ impl<R: Wait + Clock, H: EventSink> ServiceState<'_, R, H> {
         serve_operators(
             self.rt,
             self.alloc,
-            post,
+            operators_server,
             &mut operators_view,
             &**self.ending,
             &operators_refusal_logger,
@@ -295,7 +295,7 @@ impl<R: Wait + Clock, H: EventSink> ServiceState<'_, R, H> {
         requires { IsAt V.setting V.covers office.now clerk }
     {
         match self.operators_server {
-            Some(post) => self.watch_at::<V, Brand>(post, office, clerk),
+            Some(operators_server) => self.watch_at::<V, Brand>(operators_server, office, clerk),
             None => drop(clerk),
         }
     }

@@ -7,7 +7,7 @@ ghost use Rattle.lra_opening.specs.Ends.{serving_line, IsSaid};
 ghost use Rattle.lra_service.specs.inner.Opened.{IsAt};
 
 use crate::ending::say;
-use crate::post::Role;
+use crate::roles::Role;
 use crate::service_state::ServiceState;
 use lra_admission::KeyFiles;
 use lra_logs::EventSink;

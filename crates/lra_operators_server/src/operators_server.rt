@@ -63,7 +63,7 @@ impl OperatorsServer {
         address: &str,
         key: Option<String>,
     ) -> Result<OperatorsServer, PortFault>
-        ensures { IfOk result (λ post. post.key ≡ key) }
+        ensures { IfOk result (λ server. server.key ≡ key) }
     {
         let token = token(rt, alloc)?;
         match listen(rt, address, key.is_some()) {

@@ -1,8 +1,8 @@
 use Rattle.lra_office.specs.declared.clerk.Clerk.{Clerk}
-use Rattle.lra_service.specs.declared.post.Role.{Role}
+use Rattle.lra_service.specs.declared.roles.Role.{Role}
 use Rattle.lra_service.specs.inner.Opened.{IsAt}
 use Rattle.lra_service.proofs.Pushed.{all_pushed}
-use Rattle.lra_service.proofs.post.add_all.Goals as goal
+use Rattle.lra_service.proofs.roles.add_all.Goals as goal
 
 pub returns-clause-hired : goal.returns-clause-hired
 returns-clause-hired g c = all_pushed {X = Role × Clerk g.row.V.Denot g.row.V-Origin.Denot g.V.Kept}

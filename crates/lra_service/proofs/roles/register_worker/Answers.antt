@@ -1,9 +1,9 @@
 use Rattle.std.proofs.Common.{rules}
 use Rattle.lra_office.specs.declared.clerk.Clerk.{Clerk}
-use Rattle.lra_service.specs.declared.post.Role.{Role}
+use Rattle.lra_service.specs.declared.roles.Role.{Role}
 use Rattle.lra_service.specs.inner.Opened.{IsAt}
 use Rattle.lra_service.proofs.Pushed.{all_pushed}
-use Rattle.lra_service.proofs.post.register_worker.Goals as goal
+use Rattle.lra_service.proofs.roles.register_worker.Goals as goal
 
 pub returns-in-Ok-clause-hired : goal.returns-in-Ok-clause-hired
 returns-in-Ok-clause-hired g c = all_pushed {X = Role × Clerk g.row.V.Denot g.row.V-Origin.Denot g.V.Kept}

@@ -1,6 +1,6 @@
 use Rattle.std.proofs.Common.{All}
 use Rattle.lra_service.specs.inner.Opened.{IsAt}
-use Rattle.lra_service.proofs.post.add_all.Given as goal
+use Rattle.lra_service.proofs.roles.add_all.Given as goal
 
 abbrev pub invariant-loop-place : goal.invariant-loop-place
 invariant-loop-place g l = record {
