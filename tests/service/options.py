@@ -6,6 +6,7 @@ import subprocess
 import sys
 import threading
 import time
+import tomllib
 
 import held
 import journal
@@ -73,6 +74,15 @@ def settings_of(setting, *options):
 def near(usual, most, step=1):
     """Another value that a setting may have."""
     return usual + step if usual + step <= most else usual - step
+
+
+def test_a_check_reads_back_as_toml(setting):
+    name = f'{setting.folder}/a "b" \\ \x01\t\x1f\x7f\x85 ä.journal'
+    os.makedirs(f"{name}s")
+    for word, path in (("file", name), ("folder", f"{name}s/")):
+        told = setting.run("serve", "--check", f"{HOST}:1", path, "1")
+        equal(f"what is told of a {word}", (told.status, told.told), (0, ""))
+        equal(f"the {word} that is read", tomllib.loads(told.output)[word], path)
 
 
 def test_without_options_the_settings_are_the_usual_ones(setting):

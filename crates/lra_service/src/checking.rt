@@ -6,6 +6,7 @@ ghost use Rattle.lra_ids.specs.Bases.{base_text};
 ghost use Rattle.lra_opening.specs.Ends.{IsRefused, IsOfAddress};
 
 use crate::base::{ServiceSite, site_at};
+use crate::toml_lines::{put_number, put_text, put_texts};
 use lra_audits::put;
 use lra_core::Opening;
 use lra_ids::Base;
@@ -14,45 +15,17 @@ use lra_settings::{Parameter, Settings};
 use std::alloc::Global;
 use std::io::Write;
 
-/// Writes a line of a word and a number.
-pub fn put_number<W: Write>(
-    alloc: Global,
-    word: &str,
-    number: u64,
-    writer: &mut W,
-) -> Result<(), ServeFault> {
-    let line = format!(in alloc; "{word} = {number}\n")?;
-    Ok(put(writer, line.as_bytes())?)
-}
-
-/// Writes a line of a word and a text.
-pub fn put_text<W: Write>(
-    alloc: Global,
-    word: &str,
-    text: &str,
-    writer: &mut W,
-) -> Result<(), ServeFault> {
-    let line = format!(in alloc; "{word} = \"{text}\"\n")?;
-    Ok(put(writer, line.as_bytes())?)
-}
-
 /// Writes a line of the older bases, if there are any.
 pub fn put_olders<W: Write>(
     alloc: Global,
     olders: &[Base],
     writer: &mut W,
 ) -> Result<(), ServeFault> {
-    if olders.is_empty() {
-        return Ok(());
+    let mut texts = Vec::new(alloc);
+    for base in olders {
+        texts.push(base.as_str())?;
     }
-    let mut line = String::from_str(alloc, "also-base = [")?;
-    for (place, base) in olders.iter().enumerate() {
-        line.push_str(if place == 0 { "\"" } else { ", \"" })?;
-        line.push_str(base.as_str())?;
-        line.push_str("\"")?;
-    }
-    line.push_str("]\n")?;
-    Ok(put(writer, line.as_bytes())?)
+    put_texts(alloc, "also-base", &texts, writer)
 }
 
 /// Writes a line for each setting, but none for a default limit that isn't set.

@@ -22,13 +22,14 @@ mod shares;
 mod socket_acceptor;
 mod stamina;
 mod starting;
+mod toml_lines;
 
 pub use access_policy::{
     AccessPolicy, HandlerStack, RefusalLogger, dismiss, keys_trouble, receive,
 };
 pub use base::{ServiceSite, bind, site_at};
 pub use bound_address::{BoundAddress, ServiceInput, bound_address_at, listener_at};
-pub use checking::{check_place, put_journal, put_number, put_olders, put_settings, put_text};
+pub use checking::{check_place, put_journal, put_olders, put_settings};
 pub use descriptors::fit_descriptors;
 pub use dispatcher::{Dispatcher, PolledListener};
 pub use ending::{ServiceEnding, end_of, say, watch};
@@ -45,3 +46,4 @@ pub use notifier::{
 pub use running::{ServiceOutcome, serve, serve_from, serve_with};
 pub use shares::{CallbackSettings, limits_of, times_of};
 pub use socket_acceptor::{SocketAcceptor, make_socket_acceptor};
+pub use toml_lines::{put_number, put_text, put_texts};
