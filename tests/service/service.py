@@ -16,6 +16,8 @@ from collections import namedtuple
 HOST = "127.0.0.1"
 # How many seconds anything may take that has no limit of its own.
 PATIENCE = 20
+# How many seconds a start may take, which syncs what it finds: a busy disk may hold a sync up for long.
+START = 60
 # How many seconds late an answer or an end may be on a busy machine, or where its disk takes its time.
 LATE = 5
 
@@ -179,7 +181,7 @@ class Service:
         return self
 
     def first_line(self):
-        return self.process.stdout.readline().decode() if is_ready(self.process.stdout, PATIENCE) else "nothing"
+        return self.process.stdout.readline().decode() if is_ready(self.process.stdout, START) else "nothing"
 
     def __exit__(self, *_):
         self.kill()
