@@ -251,13 +251,12 @@ def test_clients_that_break_off_do_no_harm(setting):
 
 
 def asked_near_the_end(setting, last):
-    """How often a journal whose last moment is that one asks a silent member within less than two seconds, and how many
-    seconds it took. Another is asked at once."""
+    """How often a journal whose last moment is that one asks a silent member within some two seconds. Another is asked
+    at once."""
     journal.write(setting.journal, SOUND.replace(b"1 7 ", b"1 %d " % last))
     with setting.serve(2) as service, Participant() as other, service.client() as client:
         silent, swift = client.start(), client.start()
         recovery = client.join(silent, compensate=f"http://{HOST}:{free_port()}/")
-        began = time.monotonic()
         client.end(silent, "cancel")
         recorded(setting, recovery, 1)
         time.sleep(1)
@@ -265,11 +264,11 @@ def asked_near_the_end(setting, last):
         client.end(swift, "cancel")
         other.wait("compensate", seconds=LATE)
         time.sleep(0.5)
-        count = len(journal.asks_of(journal.entries(setting.journal), number_of(recovery)))
-        return count, time.monotonic() - began
+        return len(journal.asks_of(journal.entries(setting.journal), number_of(recovery)))
 
 
 def test_near_the_end_of_its_clock_a_journal_asks_a_silent_member_seldom(setting):
-    asked = [asked_near_the_end(setting, last) for last in (2**64 - 1000, 2**64 - 1)]
-    check(f"it is asked {asked} times, in seconds", all(1 <= count <= 1 + int(seconds) for count, seconds in asked))
-    return f"asked {[count for count, _ in asked]} times"
+    counts = [asked_near_the_end(setting, last) for last in (2**64 - 1000, 2**64 - 1)]
+    # Each of the two callback workers learns by itself that the member is silent; one more ask is recorded, and waits.
+    check(f"it is asked {counts} times", all(1 <= count <= 3 for count in counts))
+    return f"asked {counts} times"
