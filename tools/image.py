@@ -1,4 +1,4 @@
-"""The container's image of a release, which tools/package --image makes by buildah, with what is in its Containerfile."""
+"""The container's image of a release, which tools/package --image makes by buildah of what its Containerfile names."""
 import os
 import platform
 import shutil
