@@ -1,9 +1,13 @@
 """The container's image of a release, which tools/package --image makes by buildah of what its Containerfile names."""
+import hashlib
+import io
+import json
 import os
 import platform
 import shutil
 import subprocess
 import sys
+import tarfile
 import tempfile
 
 ROOT = os.path.dirname(os.path.dirname(os.path.abspath(__file__)))
@@ -47,6 +51,29 @@ def fill(context, program):
         os.chmod(f"{context}/{name}", mode)
 
 
+def put(tar, name, data):
+    """Adds a file to an archive, of no moment and nobody's."""
+    entry = tarfile.TarInfo(name)
+    entry.size, entry.mode = len(data), 0o644
+    tar.addfile(entry, io.BytesIO(data))
+
+
+def settle(saved, path):
+    """Writes an image that buildah saved, without the names that buildah draws by lot for each build."""
+    with tarfile.open(saved) as tar, tarfile.open(path, "w", format=tarfile.USTAR_FORMAT) as settled:
+        manifest = json.load(tar.extractfile("manifest.json"))[0]
+        config = json.load(tar.extractfile(manifest["Config"]))
+        config.pop("container", None)
+        for part in ("config", "container_config"):
+            config.get(part, {}).pop("Hostname", None)
+        text = json.dumps(config, separators=(",", ":")).encode()
+        manifest["Config"] = f"{hashlib.sha256(text).hexdigest()}.json"
+        for name in manifest["Layers"]:
+            put(settled, name, tar.extractfile(name).read())
+        put(settled, manifest["Config"], text)
+        put(settled, "manifest.json", json.dumps([manifest], separators=(",", ":")).encode())
+
+
 def build(folder, release, base):
     """Makes a release's image of a base in a folder, as `podman load` and `docker load` read it; answers its path."""
     version = release.version.replace("~", "-")
@@ -63,6 +90,7 @@ def build(folder, release, base):
             *("--build-arg", f"BASE={store.take(base, moment)}", "--build-arg", f"SOURCE_DATE_EPOCH={moment}"),
             *(*said, context),
         )
-        store("push", "--quiet", made, f"docker-archive:{path}.part:raxunto:{version}")
+        store("push", "--quiet", made, f"docker-archive:{work}/saved.tar:raxunto:{version}")
+        settle(f"{work}/saved.tar", f"{path}.part")
     os.replace(f"{path}.part", path)
     return path
