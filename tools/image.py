@@ -91,6 +91,9 @@ def build(folder, release, base):
             *(*said, context),
         )
         store("push", "--quiet", made, f"docker-archive:{work}/saved.tar:raxunto:{version}")
-        settle(f"{work}/saved.tar", f"{path}.part")
-    os.replace(f"{path}.part", path)
+        try:
+            settle(f"{work}/saved.tar", f"{path}.part")
+            os.replace(f"{path}.part", path)
+        except OSError as fault:
+            sys.exit(f"package: cannot write {path}: {fault.strerror}")
     return path
