@@ -1,4 +1,5 @@
 """The Debian package of a release, which tools/package --deb makes."""
+import contextlib
 import gzip
 import hashlib
 import os
@@ -54,6 +55,17 @@ SETTINGS = ("etc/default/lra", "etc/lra/lra.toml")
 def read(path):
     with open(path, "rb") as it:
         return it.read()
+
+
+@contextlib.contextmanager
+def written(path):
+    """Gives the name under which a release's file is written, and then names the file. Ends the program where it can't
+    be written. (A run that is ended early leaves nothing under a release's name.)"""
+    try:
+        yield f"{path}.part"
+        os.replace(f"{path}.part", path)
+    except OSError as fault:
+        sys.exit(f"package: cannot write {path}: {fault.strerror}")
 
 
 def filled(part, words):
@@ -152,8 +164,7 @@ def build(folder, release):
         architecture = describe(tree, release)
         os.umask(before)
         path = os.path.join(folder, f"raxunto_{release.version}_{architecture}.deb")
-        words = ("dpkg-deb", "--root-owner-group", "--threads-max=1", "-Zxz", "-z3", "--build", tree, f"{path}.part")
-        ran(*words, moment=release.moment)
-        # (a run that is ended early leaves nothing under a release's name)
-        os.replace(f"{path}.part", path)
+        with written(path) as part:
+            words = ("dpkg-deb", "--root-owner-group", "--threads-max=1", "-Zxz", "-z3", "--build", tree, part)
+            ran(*words, moment=release.moment)
     return path

@@ -10,6 +10,8 @@ import sys
 import tarfile
 import tempfile
 
+import deb
+
 ROOT = os.path.dirname(os.path.dirname(os.path.abspath(__file__)))
 CONTEXT = "examples/container"
 # What buildah takes beside the program, and the mode that each has.
@@ -51,10 +53,10 @@ def fill(context, program):
         os.chmod(f"{context}/{name}", mode)
 
 
-def put(tar, name, data):
-    """Adds a file to an archive, of no moment and nobody's."""
+def put(tar, name, data, mode=0o644, moment=0):
+    """Adds a file to an archive, of a moment and nobody's."""
     entry = tarfile.TarInfo(name)
-    entry.size, entry.mode = len(data), 0o644
+    entry.size, entry.mode, entry.mtime = len(data), mode, moment
     tar.addfile(entry, io.BytesIO(data))
 
 
@@ -91,9 +93,6 @@ def build(folder, release, base):
             *(*said, context),
         )
         store("push", "--quiet", made, f"docker-archive:{work}/saved.tar:raxunto:{version}")
-        try:
-            settle(f"{work}/saved.tar", f"{path}.part")
-            os.replace(f"{path}.part", path)
-        except OSError as fault:
-            sys.exit(f"package: cannot write {path}: {fault.strerror}")
+        with deb.written(path) as part:
+            settle(f"{work}/saved.tar", part)
     return path
