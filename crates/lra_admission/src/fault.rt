@@ -3,7 +3,7 @@
 use std::alloc::AllocError;
 
 /// Reason why there are no keys, or no new ones.
-#[derive(Clone, Copy, Debug, PartialEq, Eq)]
+#[derive(Clone, Copy, PartialEq, Eq)]
 pub enum KeysFault {
     /// The file can't be read.
     File,

@@ -17,7 +17,7 @@ use std::rt::Files;
 const LONGEST: u32 = 65_536;
 
 /// Fingerprint of a file, which shows that the file of a name is another, or has changed.
-#[derive(Clone, Copy, Debug, PartialEq, Eq)]
+#[derive(Clone, Copy, PartialEq, Eq)]
 pub struct FileStamp {
     pub device: u64,
     pub node: u64,

@@ -16,7 +16,7 @@ pub trait ReloadListener {
 }
 
 /// Notifier that reports nothing.
-#[derive(Clone, Copy, Debug)]
+#[derive(Clone, Copy)]
 pub struct NullListener;
 
 impl RefusalListener for NullListener {

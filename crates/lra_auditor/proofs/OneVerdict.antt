@@ -11,9 +11,9 @@ use Rattle.lra_model.specs.declared.rule.Rule.{Rule}
 use Rattle.lra_model.specs.declared.entry.Entry.{Entry}
 use Rattle.lra_model.specs.History.{History}
 use Rattle.lra_model.specs.Rules.{broken, is_legal}
-use Rattle.lra_journal.specs.Line.{line, header, text, HasLine, HasText}
-use Rattle.lra_journal.specs.Lines.{HasNoHeader, GoesOn, AreAligned}
-use Rattle.lra_journal.proofs.Apart.{lines_apart, texts_aligned, texts_apart, ends_here, next_line}
+use Rattle.lra_lines.specs.Line.{line, header, text, HasLine, HasText}
+use Rattle.lra_lines.specs.Lines.{HasNoHeader, GoesOn, AreAligned}
+use Rattle.lra_lines.proofs.Apart.{lines_apart, texts_aligned, texts_apart, ends_here, next_line}
 use Rattle.lra_addresses.specs.Addresses.{is_address}
 use Rattle.lra_course.specs.declared.verdict.Verdict.TheVariants.{Sound, Unsound}
 use Rattle.lra_auditor.specs.Verdicts.{IsTextOf, Breaks, IsFault, IsVerdict}

@@ -15,8 +15,8 @@ use Rattle.lra_model.specs.Facts.{facts_of}
 use Rattle.lra_model.specs.Rules.{broken, is_legal}
 use Rattle.lra_model.specs.Tallies.{count_actions, least_failed, failed_actions}
 use Rattle.lra_laws.proofs.Worked.{at}
-use Rattle.lra_journal.specs.Line.{line, text}
-use Rattle.lra_journal.proofs.Apart.{body_of, header_body, not_nil}
+use Rattle.lra_lines.specs.Line.{line, text}
+use Rattle.lra_lines.proofs.Apart.{body_of, header_body, not_nil}
 use Rattle.lra_addresses.specs.Addresses.{is_address}
 use Rattle.lra_laws.proofs.Legal.{legal_empty}
 use Rattle.lra_totals.specs.declared.totals.Summary.{Summary}

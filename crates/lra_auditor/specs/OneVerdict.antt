@@ -3,7 +3,7 @@ use Rattle.std.specs.Prelude.{◌≡◌, ℕ, ◌<◌, ◌^◌, true, List}
 use Rattle.lra_model.specs.declared.version.Version.{Version}
 use Rattle.lra_model.specs.History.{History}
 use Rattle.lra_model.specs.Rules.{is_legal}
-use Rattle.lra_journal.specs.Line.{text}
+use Rattle.lra_lines.specs.Line.{text}
 use Rattle.lra_addresses.specs.Addresses.{is_address}
 use Rattle.lra_course.specs.declared.verdict.Verdict.{Verdict}
 use Rattle.lra_course.specs.declared.verdict.Verdict.TheVariants.{Sound}

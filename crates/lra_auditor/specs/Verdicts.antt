@@ -7,8 +7,8 @@ use Rattle.lra_model.specs.declared.entry.Entry.{Entry}
 use Rattle.lra_model.specs.History.{History}
 use Rattle.lra_model.specs.Rules.{broken, is_legal}
 use Rattle.lra_model.specs.GoodEnds.{GoodEnds}
-use Rattle.lra_journal.specs.Line.{line, text, HasLine, HasText}
-use Rattle.lra_journal.specs.Lines.{HasNoHeader, HasNoLine}
+use Rattle.lra_lines.specs.Line.{line, text, HasLine, HasText}
+use Rattle.lra_lines.specs.Lines.{HasNoHeader, HasNoLine}
 use Rattle.lra_course.specs.declared.verdict.Verdict.{Verdict}
 use Rattle.lra_course.specs.declared.verdict.Verdict.TheVariants.{Sound, Unsound}
 use Rattle.lra_totals.specs.Summaries.{summary}

@@ -84,7 +84,7 @@ impl Held {
 }
 
 /// Decision on whether a callback may be sent.
-#[derive(Debug, Drop)]
+#[derive(Drop)]
 pub(crate) enum Leave {
     /// It may be sent, to this host and port.
     Now(String),

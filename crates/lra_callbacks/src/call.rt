@@ -29,7 +29,7 @@ use std::net::Net;
 use std::sync::Wait;
 
 /// Result of advancing a callback on its socket.
-#[derive(Clone, Copy, Debug, PartialEq, Eq)]
+#[derive(Clone, Copy, PartialEq, Eq)]
 pub(crate) enum Seen {
     /// The callback waits for its socket.
     Waits,
@@ -271,7 +271,7 @@ fn limit_of(is_connected: bool, time_outs: TimeOuts) -> u64
 }
 
 /// State of a socket's connection.
-#[derive(Clone, Copy, Debug, PartialEq, Eq)]
+#[derive(Clone, Copy, PartialEq, Eq)]
 enum Connection {
     Made,
     Pending,

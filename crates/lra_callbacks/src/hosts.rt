@@ -44,7 +44,7 @@ pub(crate) struct Target<'h> {
 }
 
 /// Next step of the callbacks.
-#[derive(Clone, Copy, Debug, PartialEq, Eq)]
+#[derive(Clone, Copy, PartialEq, Eq)]
 pub(crate) enum Next {
     /// This callback starts to that host, and is counted there.
     Goes(usize, usize),
@@ -281,7 +281,7 @@ impl Hosts {
 }
 
 /// State of a host's addresses: known, not to be found, or not known yet.
-#[derive(Clone, Copy, Debug, PartialEq, Eq)]
+#[derive(Clone, Copy, PartialEq, Eq)]
 enum Known {
     Yes,
     No,

@@ -9,7 +9,7 @@ use std::io::{ErrorKind, Read, Write};
 const MOST_STEPS: u32 = 1 << 22;
 
 /// State of a callback after its bytes were moved.
-#[derive(Clone, Copy, Debug, PartialEq, Eq)]
+#[derive(Clone, Copy, PartialEq, Eq)]
 pub(crate) enum Moved {
     /// Its stream accepts no more bytes and has no more bytes now.
     Waits,

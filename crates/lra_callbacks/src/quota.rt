@@ -30,7 +30,7 @@ pub(crate) struct Called {
 }
 
 /// Result of a request for a permit.
-#[derive(Clone, Copy, Debug, PartialEq, Eq)]
+#[derive(Clone, Copy, PartialEq, Eq)]
 pub(crate) enum Asked {
     /// The worker has a permit.
     Given,

@@ -10,7 +10,7 @@ use lra_wire::WireFault;
 use std::io::ErrorKind;
 
 /// End of a callback, as far as its socket shows.
-#[derive(Clone, Copy, Debug, PartialEq, Eq)]
+#[derive(Clone, Copy, PartialEq, Eq)]
 pub(crate) enum End {
     /// The request wasn't sent.
     NotSent,

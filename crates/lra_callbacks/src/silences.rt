@@ -12,7 +12,7 @@ use std::collections::HashMap;
 
 /// Silence of a member that was asked in a stage, and the moment until which its callback waited for it, in
 /// milliseconds.
-#[derive(Clone, Copy, Debug, PartialEq, Eq)]
+#[derive(Clone, Copy, PartialEq, Eq)]
 pub(crate) struct SilentMember {
     stage: AskKind,
     moment: u64,

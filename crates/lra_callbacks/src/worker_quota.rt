@@ -6,7 +6,7 @@ ghost use Rattle.std.specs.Prelude.{◌≡◌, ◌/◌, max};
 const MOST_HELD: u32 = 16_384;
 
 /// Time-outs of a callback, in milliseconds.
-#[derive(Clone, Copy, Debug, PartialEq, Eq)]
+#[derive(Clone, Copy, PartialEq, Eq)]
 pub struct TimeOuts {
     /// Time until the member has to have accepted the connection.
     pub connect: u64,
@@ -15,7 +15,7 @@ pub struct TimeOuts {
 }
 
 /// Quota of errands that one of several callback workers has, and their time-outs.
-#[derive(Clone, Copy, Debug, PartialEq, Eq)]
+#[derive(Clone, Copy, PartialEq, Eq)]
 pub struct WorkerQuota {
     /// Number of errands that the worker holds, including those that wait.
     pub held: u32,

@@ -53,14 +53,14 @@ impl<A: Handler, K: CapacitySource> CapacityFilter<A, K> {
     }
 
     /// Returns the API error for a request that is turned away, or nothing if it isn't.
-    fn turned_away(&self, alloc: Global, request: &RoutedRequest<'_>) -> Option<Answered>
+    fn turned_away(&self, request: &RoutedRequest<'_>) -> Option<Answered>
         ensures none { IfNone result (spec.IsLet K.tells request.now) }
         ensures some { IfSome result (λ answered. spec.IsTurnedAway K.tells request.now answered) }
     {
         if !self.reserve.has_any() || !begins(request) {
             return None;
         }
-        let (instance, refusal) = match instance_of(alloc, request) {
+        let (instance, refusal) = match instance_of(request) {
             Ok(None) if is_join(request) => return None,
             Ok(named) => (
                 self.reserve.near_end(named)?,
@@ -95,7 +95,7 @@ impl<A: Handler, K: CapacitySource> Handler for CapacityFilter<A, K> {
     }
 
     fn respond(&mut self, alloc: Global, moment: u64, request: &RoutedRequest<'_>) -> Answered {
-        match self.turned_away(alloc, request) {
+        match self.turned_away(request) {
             Some(answered) => answered,
             None => self.inner.respond(alloc, moment, request),
         }

@@ -22,7 +22,7 @@ const CALLS: [(&str, &str); 10] = [
 ];
 
 /// Reason why a command line is refused.
-#[derive(Clone, Copy, Debug, PartialEq, Eq)]
+#[derive(Clone, Copy, PartialEq, Eq)]
 pub(crate) enum Misuse<'a> {
     /// The first word is no verb.
     Verb(&'a str),

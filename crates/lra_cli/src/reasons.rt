@@ -20,7 +20,7 @@ use std::time::Clock;
 const FAULT: u8 = 2;
 
 /// Reason why something isn't available.
-#[derive(Clone, Copy, Debug, PartialEq, Eq)]
+#[derive(Clone, Copy, PartialEq, Eq)]
 pub(crate) enum Reason {
     /// Error of the system.
     System(ErrorKind),
@@ -31,7 +31,7 @@ pub(crate) enum Reason {
 }
 
 /// Thing that isn't available, by the line of a fault.
-#[derive(Clone, Copy, Debug, PartialEq, Eq)]
+#[derive(Clone, Copy, PartialEq, Eq)]
 enum Lacked<'a> {
     /// A file that can't be read.
     Read(&'a str),

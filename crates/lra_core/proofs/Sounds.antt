@@ -4,7 +4,7 @@ use Rattle.lra_model.specs.declared.version.Version.{Version}
 use Rattle.lra_model.specs.History.{History}
 use Rattle.lra_model.specs.Rules.{is_legal}
 use Rattle.lra_ids.specs.Addresses.{is_address}
-use Rattle.lra_journal.specs.Line.{text}
+use Rattle.lra_lines.specs.Line.{text}
 use Rattle.lra_auditor.proofs.LegalTexts.{legal_has_text}
 use Rattle.lra_auditor.proofs.OneVerdict.{legal_text_sound}
 use Rattle.lra_commands.proofs.Keeps.{calls_keep}

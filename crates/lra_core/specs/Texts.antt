@@ -1,7 +1,7 @@
 -- What an audit says of the texts of histories that commands make.
 use Rattle.std.specs.Prelude.{◌≡◌, ℕ, ◌<◌, ◌^◌, List, All}
 use Rattle.lra_model.specs.History.{History}
-use Rattle.lra_journal.specs.Line.{text}
+use Rattle.lra_lines.specs.Line.{text}
 use Rattle.lra_course.specs.declared.verdict.Verdict.{Verdict}
 use Rattle.lra_course.specs.declared.verdict.Verdict.TheVariants.{Sound}
 use Rattle.lra_auditor.specs.Verdicts.{IsVerdict}

@@ -9,7 +9,7 @@ use lra_model::{ActionStatus, MemberStatus, Rule};
 use std::marker::Model;
 
 /// An action, its parent and its status.
-#[derive(Clone, Copy, Debug, PartialEq, Eq)]
+#[derive(Clone, Copy, PartialEq, Eq)]
 pub struct ListedAction {
     pub action: u64,
     pub parent: Option<u64>,
@@ -17,7 +17,7 @@ pub struct ListedAction {
 }
 
 /// A member, its action and its status.
-#[derive(Clone, Copy, Debug, PartialEq, Eq)]
+#[derive(Clone, Copy, PartialEq, Eq)]
 pub struct ListedMember {
     pub member: u64,
     pub action: u64,
@@ -25,7 +25,7 @@ pub struct ListedMember {
 }
 
 /// The actions and the members of a legal history, each in the order of their numbers, which begin with 1.
-#[derive(Debug, Drop)]
+#[derive(Drop)]
 pub struct Listing {
     rows: Rows,
 }
@@ -86,7 +86,7 @@ impl Listing {
 }
 
 /// The account of a journal: the listing of its history, or its first fault.
-#[derive(Debug, Drop)]
+#[derive(Drop)]
 pub enum Account {
     /// The history is legal.
     Sound(Listing),

@@ -4,7 +4,7 @@ use lra_model::Rule;
 use lra_totals::Summary;
 
 /// The result of an audit.
-#[derive(Debug, Drop)]
+#[derive(Drop)]
 pub enum Verdict {
     /// The history is legal.
     Sound(Summary),

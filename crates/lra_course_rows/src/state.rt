@@ -15,7 +15,7 @@ use std::collections::HashMap;
 use std::marker::Model;
 
 /// The auditor's state of a history.
-#[derive(Debug, Drop)]
+#[derive(Drop)]
 pub struct Rows {
     /// The moment of the last entry.
     pub(crate) moment: u64,

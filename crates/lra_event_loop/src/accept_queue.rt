@@ -14,7 +14,7 @@ use std::sync::{Mutex, Wait};
 pub(crate) const WAKER: Token = Token(usize::MAX);
 
 /// State of an accept queue: it accepts connections, or doesn't.
-#[derive(Clone, Copy, Debug, PartialEq, Eq)]
+#[derive(Clone, Copy, PartialEq, Eq)]
 pub(crate) enum AcceptState {
     Open,
     /// It accepts none, and the thread ends once no replies wait.

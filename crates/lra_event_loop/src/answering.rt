@@ -18,7 +18,7 @@ const MOST_REQUESTS: u64 = 16;
 const MOST_WAITING: usize = 65_536;
 
 /// State of a connection once its requests have been answered.
-#[derive(Clone, Copy, Debug, PartialEq, Eq)]
+#[derive(Clone, Copy, PartialEq, Eq)]
 pub enum Stage {
     /// More bytes are needed.
     NeedsInput,

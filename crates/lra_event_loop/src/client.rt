@@ -24,7 +24,7 @@ use std::net::Shutdown;
 use std::sync::Wait;
 
 /// Reason why a client can't be served any more.
-#[derive(Clone, Copy, Debug, PartialEq, Eq)]
+#[derive(Clone, Copy, PartialEq, Eq)]
 pub enum ClientFault {
     /// Memory was refused.
     Memory,
@@ -44,7 +44,7 @@ impl From<AllocError> for ClientFault {
 }
 
 /// Outcome of reading a client's stream.
-#[derive(Clone, Copy, Debug, PartialEq, Eq)]
+#[derive(Clone, Copy, PartialEq, Eq)]
 pub enum Reading {
     /// Some bytes came.
     Came,
@@ -57,7 +57,7 @@ pub enum Reading {
 }
 
 /// Outcome of writing to a client's stream.
-#[derive(Clone, Copy, Debug, PartialEq, Eq)]
+#[derive(Clone, Copy, PartialEq, Eq)]
 pub enum WriteResult {
     /// Some bytes were written.
     Went,

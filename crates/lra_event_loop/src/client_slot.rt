@@ -27,7 +27,7 @@ const LINGER: u64 = 2_000;
 const MOST_DISCARDED: usize = 1_048_576;
 
 /// Turn of a client: what has to happen next, and until when.
-#[derive(Clone, Copy, Debug, PartialEq, Eq)]
+#[derive(Clone, Copy, PartialEq, Eq)]
 pub(crate) enum Turn {
     /// The client has to begin a request.
     Begins(u64),
@@ -43,7 +43,7 @@ pub(crate) enum Turn {
 }
 
 /// Next need of a client.
-#[derive(Clone, Copy, Debug, PartialEq, Eq)]
+#[derive(Clone, Copy, PartialEq, Eq)]
 pub(crate) enum Need {
     /// Readiness of its stream.
     Rest,

@@ -39,7 +39,7 @@ const MOST_ITERATIONS: u32 = 4;
 const PARTING: u64 = 10_000;
 
 /// Reason why an event loop has ended.
-#[derive(Clone, Copy, Debug, PartialEq, Eq)]
+#[derive(Clone, Copy, PartialEq, Eq)]
 pub enum EventLoopEnd {
     /// A journal has failed.
     SyncFault,

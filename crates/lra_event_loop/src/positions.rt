@@ -10,7 +10,7 @@ use lra_steps::Answered;
 use std::sync::Wait;
 
 /// Length of the journal of an instance.
-#[derive(Clone, Copy, Debug, PartialEq, Eq)]
+#[derive(Clone, Copy, PartialEq, Eq)]
 pub struct Position {
     pub instance: Instance,
     pub length: u64,
@@ -18,7 +18,7 @@ pub struct Position {
 
 /// Positions that have to be durable before a client's replies leave: in two journals at most, and the greatest of
 /// each.
-#[derive(Clone, Copy, Debug, PartialEq, Eq)]
+#[derive(Clone, Copy, PartialEq, Eq)]
 pub struct Positions {
     first: Option<Position>,
     other: Option<Position>,

@@ -1,7 +1,7 @@
 //! Time limits of a client.
 
 /// Time limits of a client, in milliseconds.
-#[derive(Clone, Copy, Debug, PartialEq, Eq)]
+#[derive(Clone, Copy, PartialEq, Eq)]
 pub struct Times {
     /// Longest time between requests, until the first byte of the next.
     pub idle: u64,

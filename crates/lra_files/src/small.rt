@@ -12,7 +12,7 @@ use std::os::unix::fs::PermissionsExt;
 const OTHERS: u32 = 0o077;
 
 /// The reason why a small file isn't read.
-#[derive(Clone, Copy, Debug, PartialEq, Eq)]
+#[derive(Clone, Copy, PartialEq, Eq)]
 pub enum SmallFault {
     /// It can't be read.
     File,

@@ -24,7 +24,7 @@ pub const RESTORED: &str = "restored";
 pub const GIVEN_UP: &str = "given-up";
 
 /// The names of what a folder has.
-#[derive(Debug, Drop)]
+#[derive(Drop)]
 pub struct Found {
     /// The journals, in the order of their names.
     pub journals: Vec<String>,

@@ -46,7 +46,7 @@ use std::marker::{Send, Sync};
 use std::thread::Threads;
 
 /// The numbers of journals that are sound, that aren't, and that can't be read.
-#[derive(Clone, Copy, Debug, PartialEq, Eq)]
+#[derive(Clone, Copy, PartialEq, Eq)]
 pub struct Tally {
     pub sound: u64,
     pub unsound: u64,
@@ -54,7 +54,7 @@ pub struct Tally {
 }
 
 /// The result of an audit of a folder.
-#[derive(Debug, Drop)]
+#[derive(Drop)]
 pub struct FolderAudit {
     /// The program's status: 2 where a journal can't be read, else 1 where one isn't sound, else 0.
     pub status: u8,

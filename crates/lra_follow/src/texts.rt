@@ -5,7 +5,7 @@ use lra_model::Memory;
 use std::alloc::Global;
 
 /// Reason why a journal can't be followed any more.
-#[derive(Clone, Copy, Debug, PartialEq, Eq)]
+#[derive(Clone, Copy, PartialEq, Eq)]
 pub enum Lost {
     /// The file has fewer bytes than were read.
     Shrunk,

@@ -5,7 +5,7 @@ use lra_opening::{ServeFault, fault_line};
 use std::alloc::{AllocError, AllocFailed, Global};
 
 /// Reason why a folder isn't served, or is served no more.
-#[derive(Debug, Drop)]
+#[derive(Drop)]
 pub enum RollingFault {
     /// Fault of the file of that path.
     Of { fault: ServeFault, path: String },

@@ -7,7 +7,7 @@ use lra_model::{Instance, Memory};
 use std::alloc::Global;
 
 /// A member that isn't notified any more that its action has ended.
-#[derive(Clone, Copy, Debug, PartialEq, Eq)]
+#[derive(Clone, Copy, PartialEq, Eq)]
 pub struct GivenUp {
     /// Instance of the member's journal.
     pub journal: Instance,

@@ -8,7 +8,7 @@ use lra_commands::{Counter, CounterFault, Told};
 use lra_ids::Instance;
 
 /// Order, and the counter that it is given to: the newest, where none is named.
-#[derive(Clone, Copy, Debug)]
+#[derive(Clone, Copy)]
 pub struct Request<'a> {
     pub named: Option<Instance>,
     pub giving: Giving<'a>,

@@ -16,7 +16,7 @@ pub trait EventSink {
 }
 
 /// Event sink that drops each event.
-#[derive(Clone, Copy, Debug)]
+#[derive(Clone, Copy)]
 pub struct NullSink;
 
 impl EventSink for NullSink {

@@ -9,7 +9,7 @@ use std::marker::Model;
 const MOST: u64 = 100;
 
 /// Decision on a line.
-#[derive(Clone, Copy, Debug, PartialEq, Eq)]
+#[derive(Clone, Copy, PartialEq, Eq)]
 pub enum Verdict {
     /// The line is written.
     Write,
@@ -20,7 +20,7 @@ pub enum Verdict {
 }
 
 /// Rate limiter. It counts the lines of a second beside warnings and errors, and the lines that weren't written.
-#[derive(Debug, Drop)]
+#[derive(Drop)]
 pub struct RateLimiter {
     second: u64,
     written: u64,

@@ -12,7 +12,7 @@ use Rattle.lra_model.specs.History.{History}
 use Rattle.lra_model.specs.Rules.{is_legal}
 use Rattle.lra_laws.proofs.Legal.{legal_begins}
 use Rattle.lra_ids.specs.Addresses.{is_address}
-use Rattle.lra_journal.specs.Line.{line, header, text, HasLine}
+use Rattle.lra_lines.specs.Line.{line, header, text, HasLine}
 use Rattle.lra_auditor.proofs.LegalTexts.{legal_has_text}
 use Rattle.lra_commands.specs.Answers.{growth}
 use Rattle.lra_commands.specs.Counters.{Setting, terms_of}

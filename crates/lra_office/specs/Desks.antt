@@ -3,7 +3,7 @@ use Rattle.std.specs.Prelude.{◌≡◌, ℕ, ◌-◌, ◌^◌, ◌<◌, min, tr
 use Rattle.std.specs.List.{flat_map}
 use Rattle.std.specs.Io.KnownBytes.{Appends}
 use Rattle.lra_model.specs.History.{History}
-use Rattle.lra_journal.specs.Line.{line, text}
+use Rattle.lra_lines.specs.Line.{line, text}
 use Rattle.lra_commands.specs.Calls.{Call, IsCall}
 use Rattle.lra_commands.specs.Answers.{growth}
 use Rattle.lra_commands.specs.Counters.{Setting, terms_of}

@@ -7,7 +7,7 @@ pub trait Notifier {
 }
 
 /// Notifier that drops all lines.
-#[derive(Clone, Copy, Debug)]
+#[derive(Clone, Copy)]
 pub struct SilentNotifier;
 
 impl Notifier for SilentNotifier {

@@ -24,7 +24,7 @@ pub struct Access<'a> {
 }
 
 /// Decision whether a request may be made.
-#[derive(Clone, Copy, Debug, PartialEq, Eq)]
+#[derive(Clone, Copy, PartialEq, Eq)]
 pub enum Admission {
     Admitted,
     /// No key was given, or another.

@@ -6,7 +6,7 @@ ghost use Rattle.lra_operators.specs.Operations as spec;
 use lra_front::Path;
 
 /// Operation that a request asks for. Each operation has a path of its own.
-#[derive(Clone, Copy, Debug, PartialEq, Eq, Drop)]
+#[derive(Clone, Copy, PartialEq, Eq, Drop)]
 pub enum Operation {
     /// Reads a service's whole health.
     Health,

@@ -18,7 +18,7 @@ use serde_json::Value;
 use std::alloc::Global;
 
 /// Way of giving a member up.
-#[derive(Clone, Copy, Debug, PartialEq, Eq)]
+#[derive(Clone, Copy, PartialEq, Eq)]
 enum GivingUp {
     /// The member ends with a failure, as it would report itself.
     Ends(Ending),

@@ -10,7 +10,7 @@ use lra_model::Memory;
 use std::alloc::Global;
 
 /// Reason why nothing is served.
-#[derive(Clone, Copy, Debug, PartialEq, Eq)]
+#[derive(Clone, Copy, PartialEq, Eq)]
 pub enum Unserved {
     NoSuchPath,
     BadMethod(Operation),

@@ -10,7 +10,7 @@ use std::time::Instant;
 const PIECE: usize = 4_096;
 
 /// Stage of a visit.
-#[derive(Clone, Copy, Debug, PartialEq, Eq)]
+#[derive(Clone, Copy, PartialEq, Eq)]
 enum Stage {
     /// The client sends its request.
     Asks,
@@ -24,7 +24,7 @@ enum Stage {
 }
 
 /// Outcome of one read or write of a visitor.
-#[derive(Clone, Copy, Debug, PartialEq, Eq)]
+#[derive(Clone, Copy, PartialEq, Eq)]
 pub(crate) enum Step {
     /// Bytes went or came.
     Moved,

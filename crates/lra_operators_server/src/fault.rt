@@ -6,7 +6,7 @@ ghost use Rattle.lra_operators_server.specs.Faults as specs;
 use std::alloc::{AllocError, Global};
 
 /// Reason why there is no port for operators.
-#[derive(Clone, Copy, Debug, PartialEq, Eq)]
+#[derive(Clone, Copy, PartialEq, Eq)]
 pub enum PortFault {
     /// The address is no host and port, or can't be bound.
     Address,

@@ -13,7 +13,7 @@ const PAGE: u64 = 4_096;
 const MOST: usize = 1_024;
 
 /// Process statistics that the system reports.
-#[derive(Clone, Copy, Debug, PartialEq, Eq)]
+#[derive(Clone, Copy, PartialEq, Eq)]
 pub struct ProcessStatistics {
     /// Numbers of bytes of memory that the process has: of virtual memory, and of resident memory.
     pub virtual_bytes: Option<u64>,

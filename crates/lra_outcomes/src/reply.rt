@@ -8,7 +8,7 @@ use itoa::Buffer;
 use std::alloc::AllocError;
 
 /// Outcome of a callback that didn't advance its member.
-#[derive(Clone, Copy, Debug, PartialEq, Eq)]
+#[derive(Clone, Copy, PartialEq, Eq)]
 pub enum Reply {
     /// The rules for members don't allow any of its addresses.
     NotAllowed,

@@ -9,7 +9,7 @@ use lra_ids::Instance;
 use lra_model::Memory;
 
 /// Question about a service's health.
-#[derive(Clone, Copy, Debug, PartialEq, Eq)]
+#[derive(Clone, Copy, PartialEq, Eq)]
 pub enum Probe {
     /// The question for all checks.
     Whole,

@@ -7,7 +7,7 @@ use crate::overview::Facts;
 use lra_model::Memory;
 
 /// Kind of a measure's number.
-#[derive(Clone, Copy, Debug, PartialEq, Eq)]
+#[derive(Clone, Copy, PartialEq, Eq)]
 pub enum Kind {
     Gauge,
     Counter,

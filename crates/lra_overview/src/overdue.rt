@@ -32,7 +32,7 @@ pub struct Overdue {
 }
 
 /// Way in which a member that isn't being asked holds up an end.
-#[derive(Clone, Copy, Debug, PartialEq, Eq)]
+#[derive(Clone, Copy, PartialEq, Eq)]
 pub enum Standing {
     /// The member answered last that it is at it.
     AtIt,

@@ -46,7 +46,7 @@ pub const NO_VERSION: u64 = u64::MAX - 1;
 const ENDED: u64 = u64::MAX;
 
 /// Version that a connection worker follows, if it follows one.
-#[derive(Clone, Copy, Debug, PartialEq, Eq)]
+#[derive(Clone, Copy, PartialEq, Eq)]
 pub enum Following {
     /// It hasn't followed any version yet.
     Nothing,

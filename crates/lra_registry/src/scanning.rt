@@ -10,7 +10,7 @@ use std::sync::Wait;
 const MOST_AT_ONCE: u64 = 8_192;
 
 /// Kind of a journal's parts that are numbered from 1 on, without gaps.
-#[derive(Clone, Copy, Debug, PartialEq, Eq)]
+#[derive(Clone, Copy, PartialEq, Eq)]
 pub(crate) enum ScanKind {
     Action,
     Member,
@@ -57,7 +57,7 @@ impl<B: JournalSession + Drop> ServedJournal<B> {
 }
 
 /// Result of a scan so far.
-#[derive(Clone, Copy, Debug, PartialEq, Eq)]
+#[derive(Clone, Copy, PartialEq, Eq)]
 pub(crate) enum Scanned {
     /// The scan isn't at its end.
     Further,
@@ -68,7 +68,7 @@ pub(crate) enum Scanned {
 }
 
 /// Scan of all actions of a journal and all their members, one after another.
-#[derive(Clone, Copy, Debug, PartialEq, Eq)]
+#[derive(Clone, Copy, PartialEq, Eq)]
 pub(crate) struct Scan {
     /// The position of the next action.
     actions: u64,

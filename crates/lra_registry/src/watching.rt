@@ -12,7 +12,7 @@ use std::io::ErrorKind;
 use std::sync::{Arc, Wait};
 
 /// Bounds by which the journals of a folder are observed.
-#[derive(Clone, Copy, Debug, PartialEq, Eq)]
+#[derive(Clone, Copy, PartialEq, Eq)]
 pub struct JournalBounds {
     /// Counts of the newest journal at which the next one replaces it.
     pub most: Counts,

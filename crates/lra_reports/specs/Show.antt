@@ -4,7 +4,7 @@ use Rattle.std.specs.Fmt.{decimal}
 use Rattle.std.specs.List.{flat_map}
 use Rattle.std.specs.Io.KnownBytes.{Appends}
 use Rattle.lra_model.specs.Names.{action_status_name, member_status_name}
-use Rattle.lra_journal.specs.Line.{or_star}
+use Rattle.lra_lines.specs.Line.{or_star}
 use Rattle.lra_course.specs.declared.listing.ListedAction.{ListedAction}
 use Rattle.lra_course.specs.declared.listing.ListedMember.{ListedMember}
 use Rattle.lra_course.specs.declared.listing.Account.{Account}

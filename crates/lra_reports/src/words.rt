@@ -9,7 +9,7 @@ ghost use Rattle.lra_words.specs.Asked.{texts};
 use lra_audits::Usage;
 
 /// A run on an input.
-#[derive(Clone, Copy, Debug)]
+#[derive(Clone, Copy)]
 pub enum Invocation<'a> {
     /// Audit standard input.
     AuditInput,
@@ -22,7 +22,7 @@ pub enum Invocation<'a> {
 }
 
 /// The question to a program that reads and reports.
-#[derive(Clone, Copy, Debug)]
+#[derive(Clone, Copy)]
 pub enum Question<'a> {
     /// The result of a run on an input.
     Run(Invocation<'a>),

@@ -33,7 +33,7 @@ use std::sync::{Arc, Wait};
 use std::time;
 
 /// Role of a thread.
-#[derive(Clone, Copy, Debug, PartialEq, Eq)]
+#[derive(Clone, Copy, PartialEq, Eq)]
 pub(crate) enum FolderRole {
     /// Acceptor of connections.
     Accept,

@@ -24,7 +24,7 @@ use std::thread::Threads;
 use std::time::Clock;
 
 /// End of a service over a folder, without a fault.
-#[derive(Debug, Drop)]
+#[derive(Drop)]
 pub enum FolderOutcome {
     /// The journal of that path isn't sound. The report is written, and this is the program's status.
     Unsound { status: u8, path: String },

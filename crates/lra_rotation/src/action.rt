@@ -1,7 +1,7 @@
 //! Actions of a rotation, the stage of the next journal, and answers to who accepts new work.
 
 /// Stage of the next journal.
-#[derive(Clone, Copy, Debug, PartialEq, Eq)]
+#[derive(Clone, Copy, PartialEq, Eq)]
 pub enum Stage {
     /// No journal is being prepared.
     Idle,
@@ -14,7 +14,7 @@ pub enum Stage {
 }
 
 /// Action that is done next.
-#[derive(Clone, Copy, Debug, PartialEq, Eq)]
+#[derive(Clone, Copy, PartialEq, Eq)]
 pub enum RotationAction {
     /// Removal of a journal that was being prepared when the service before ended.
     Remove(u64),
@@ -39,7 +39,7 @@ pub enum RotationAction {
 }
 
 /// Change of a journal that is served.
-#[derive(Clone, Copy, Debug, PartialEq, Eq)]
+#[derive(Clone, Copy, PartialEq, Eq)]
 pub enum Change {
     /// Nothing is begun in the journal any more.
     Close,
@@ -50,7 +50,7 @@ pub enum Change {
 }
 
 /// Journal that accepts new work that names none, or the reason why no journal does.
-#[derive(Clone, Copy, Debug, PartialEq, Eq)]
+#[derive(Clone, Copy, PartialEq, Eq)]
 pub enum NewWork {
     /// The newest journal, of this instance, accepts it.
     Accepted(u64),
@@ -67,7 +67,7 @@ pub enum NewWork {
 }
 
 /// Result of a step.
-#[derive(Clone, Copy, Debug, PartialEq, Eq)]
+#[derive(Clone, Copy, PartialEq, Eq)]
 pub enum StepResult {
     /// Nothing was to be done.
     Nothing,

@@ -1,7 +1,7 @@
 //! Journals that are served, observations of them, and the workers that answer for them.
 
 /// Journal that is served.
-#[derive(Clone, Copy, Debug, PartialEq, Eq)]
+#[derive(Clone, Copy, PartialEq, Eq)]
 pub struct RotationJournal {
     pub instance: u64,
     /// Flag, set if nothing is begun in it any more.
@@ -13,7 +13,7 @@ pub struct RotationJournal {
 }
 
 /// Observation of a journal.
-#[derive(Clone, Copy, Debug, PartialEq, Eq)]
+#[derive(Clone, Copy, PartialEq, Eq)]
 pub struct Observation {
     pub instance: u64,
     /// Flag, set if it has as much as it is to have, so that the next one takes its place.
@@ -32,7 +32,7 @@ pub struct Observation {
 }
 
 /// Worker that answers, with the set that it follows.
-#[derive(Clone, Copy, Debug, PartialEq, Eq)]
+#[derive(Clone, Copy, PartialEq, Eq)]
 pub struct RotationWorker {
     pub number: u64,
     /// Version of the set: it has a session in each journal of that, and in no other.

@@ -7,7 +7,7 @@ use lra_commands::Row;
 use lra_model::ActionStatus;
 
 /// Counts of what a journal has.
-#[derive(Clone, Copy, Debug, PartialEq, Eq)]
+#[derive(Clone, Copy, PartialEq, Eq)]
 pub struct Counts {
     pub actions: u64,
     pub members: u64,

@@ -7,7 +7,7 @@ use lra_model::Memory;
 use std::alloc::Global;
 
 /// Limit that a nearly full journal has come to.
-#[derive(Clone, Copy, Debug, PartialEq, Eq)]
+#[derive(Clone, Copy, PartialEq, Eq)]
 pub enum Mark {
     /// Silent members are asked seldom, since the journal has few entries left.
     Seldom,

@@ -1,7 +1,7 @@
 //! Settings of a rotation.
 
 /// Settings of a rotation, which stay from a service's start to its end.
-#[derive(Clone, Copy, Debug, PartialEq, Eq)]
+#[derive(Clone, Copy, PartialEq, Eq)]
 pub struct RotationSettings {
     /// Site of its journals, which their instances begin with.
     pub site: u16,

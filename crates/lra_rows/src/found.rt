@@ -16,7 +16,7 @@ use lra_model::{ActionStatus, AskKind, Direction, MemberStatus, Outcome};
 use lra_states::{MemberState, way_asked};
 
 /// An action, as it is now.
-#[derive(Clone, Copy, Debug)]
+#[derive(Clone, Copy)]
 pub struct ActionRow {
     pub parent: Option<u64>,
     /// The limit in force in milliseconds, where 0 is none.
@@ -29,7 +29,7 @@ pub struct ActionRow {
 }
 
 /// A member, as it is now.
-#[derive(Clone, Copy, Debug)]
+#[derive(Clone, Copy)]
 pub struct MemberRow {
     pub action: u64,
     pub status: MemberStatus,
@@ -49,7 +49,7 @@ pub struct MemberRow {
 }
 
 /// An ask that was made.
-#[derive(Clone, Copy, Debug)]
+#[derive(Clone, Copy)]
 pub struct AskRow {
     pub member: u64,
     pub kind: AskKind,

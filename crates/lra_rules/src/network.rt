@@ -10,7 +10,7 @@ use crate::texts::{at_last, number};
 use std::net::{IpAddr, Ipv4Addr, Ipv6Addr};
 
 /// Network: all addresses whose first `bits` bits are those of `first`.
-#[derive(Clone, Copy, Debug, PartialEq, Eq)]
+#[derive(Clone, Copy, PartialEq, Eq)]
 pub(crate) struct Network {
     first: IpAddr,
     bits: u16,

@@ -11,7 +11,7 @@ use std::alloc::Global;
 use std::net::IpAddr;
 
 /// Hosts that a rule is for.
-#[derive(Debug, Drop)]
+#[derive(Drop)]
 pub(crate) enum Hosts<N> {
     /// All hosts that have names, and all addresses that aren't special.
     Any,
@@ -22,7 +22,7 @@ pub(crate) enum Hosts<N> {
 }
 
 /// Parsed rule: the hosts that it is for, and its port. None is any port.
-#[derive(Debug, Drop)]
+#[derive(Drop)]
 pub(crate) struct Reading<N> {
     pub(crate) hosts: Hosts<N>,
     pub(crate) port: Option<u16>,

@@ -11,7 +11,7 @@ use std::net::IpAddr;
 
 /// A rule that says where members may be: `*`, a name, `.` and the end of names, an address or a network. It is for one
 /// port if `:` and a port follow, else for all ports. A contract sees the text.
-#[derive(Debug, Drop)]
+#[derive(Drop)]
 pub struct Rule {
     text: String,
     reading: Reading<Vec<u8>>,

@@ -14,7 +14,7 @@ use std::net::{IpAddr, SocketAddr};
 
 /// Rules that say where members may be: wherever one of them allows, or anywhere if there is none. A contract sees the
 /// texts of the rules.
-#[derive(Debug, Drop)]
+#[derive(Drop)]
 pub struct Rules {
     rules: Vec<Rule>,
 }

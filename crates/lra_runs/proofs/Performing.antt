@@ -13,9 +13,9 @@ use Rattle.std.proofs.lemmas.List.Folds.{flat_map-map}
 use Rattle.lra_model.specs.declared.entry.Entry.{Entry}
 use Rattle.lra_model.specs.declared.version.Version.{Version}
 use Rattle.lra_model.specs.History.{History}
-use Rattle.lra_journal.specs.Line.{line, HasLine}
-use Rattle.lra_journal.specs.Lines.{lines_of}
-use Rattle.lra_journal.proofs.Apart.{lines_of_entries}
+use Rattle.lra_lines.specs.Line.{line, HasLine}
+use Rattle.lra_lines.specs.Lines.{lines_of}
+use Rattle.lra_lines.proofs.Apart.{lines_of_entries}
 use Rattle.lra_auditor.proofs.LegalTexts.{legal_has_text}
 use Rattle.lra_commands.specs.declared.command.Told.{Told}
 use Rattle.lra_commands.specs.declared.refusal.Refusal.{Refusal}

@@ -11,9 +11,9 @@ use Rattle.std.proofs.lemmas.Option.{none-some, same_Some}
 use Rattle.std.proofs.lemmas.List.{append-nil, length_push, length-append, take-append-drop}
 use Rattle.std.proofs.lemmas.List.Elements.{All-nil, All-push}
 use Rattle.lra_model.specs.declared.version.Version.TheVariants.{Two}
-use Rattle.lra_journal.specs.Line.{header}
-use Rattle.lra_journal.specs.Lines.{IsLine}
-use Rattle.lra_journal.proofs.Texts.{feed_in, line_front, one_more}
+use Rattle.lra_lines.specs.Line.{header}
+use Rattle.lra_lines.specs.Lines.{IsLine}
+use Rattle.lra_lines.proofs.Texts.{feed_in, line_front, one_more}
 use Rattle.lra_core.specs.Shape.{Shape}
 use Rattle.lra_audits.specs.declared.fault.RunFault.{RunFault}
 use Rattle.lra_audits.specs.declared.fault.RunFault.TheVariants as fault

@@ -18,17 +18,17 @@ use Rattle.lra_model.specs.Addresses.{Addresses}
 use Rattle.lra_model.specs.Names.{outcome_name, ending_name}
 use Rattle.std.proofs.lemmas.List.Folds.{list_all-append}
 use Rattle.lra_laws.proofs.Tested.{both, and_intro}
-use Rattle.lra_journal.specs.Line.{is_visible, or_star}
-use Rattle.lra_journal.specs.Fields.{split_words}
-use Rattle.lra_journal.specs.Reading.{Words, number_or_star_of, next_of, number_at, unended}
+use Rattle.lra_lines.specs.Line.{is_visible, or_star}
+use Rattle.lra_lines.specs.Fields.{split_words}
+use Rattle.lra_lines.specs.Reading.{Words, number_or_star_of, next_of, number_at}
 use Rattle.lra_entries.specs.inner.Digits.{◌>>=◌}
-use Rattle.lra_journal.specs.inner.Combinators.{named}
-use Rattle.lra_journal.proofs.LineFeeds.{unended_push, unended_is}
-use Rattle.lra_journal.proofs.Splitting.{Lacks, split_words_at, split_words_none}
-use Rattle.lra_journal.proofs.Plain.{lacks_from, decimal_plain}
-use Rattle.lra_journal.proofs.Spelled.{bind_some, map_some, next_is, number_takes, named_takes, star_takes}
-use Rattle.lra_journal.proofs.ReadBack.{next_again, number_next, star_next}
-use Rattle.lra_journal.proofs.EntryLines.{whole_is}
+use Rattle.lra_lines.specs.inner.Combinators.{named, unended}
+use Rattle.lra_lines.proofs.LineFeeds.{unended_push, unended_is}
+use Rattle.lra_lines.proofs.Splitting.{Lacks, split_words_at, split_words_none}
+use Rattle.lra_lines.proofs.Plain.{lacks_from, decimal_plain}
+use Rattle.lra_lines.proofs.Spelled.{bind_some, map_some, next_is, number_takes, named_takes, star_takes}
+use Rattle.lra_lines.proofs.ReadBack.{next_again, number_next, star_next}
+use Rattle.lra_lines.proofs.EntryLines.{whole_is}
 use Rattle.lra_runs.specs.declared.requests.Request.{Request}
 use Rattle.lra_runs.specs.declared.requests.Request.TheVariants as request
 use Rattle.lra_runs.specs.declared.requests.RequestName.{RequestName}

@@ -6,7 +6,7 @@ use Rattle.std.specs.Str.{IsUtf8, is_utf8}
 use Rattle.std.specs.Option.{option_copied}
 use Rattle.std.specs.Result.{result_ok}
 use Rattle.std.proofs.lemmas.Str.{IsUtf8-from_is_utf8, is_utf8-from_IsUtf8}
-use Rattle.lra_journal.specs.Reading.{unended}
+use Rattle.lra_lines.specs.inner.Combinators.{unended}
 use Rattle.lra_entries.specs.inner.Digits.{◌>>=◌}
 use Rattle.lra_runs.specs.inner.RequestReading.{text_of}
 

@@ -10,7 +10,7 @@ use Rattle.lra_model.specs.declared.entry.Entry.{Entry}
 use Rattle.lra_model.specs.declared.version.Version.TheVariants.{Two}
 use Rattle.lra_model.specs.Names.{action_status_name, member_status_name, ask_kind_name}
 use Rattle.lra_model.specs.History.{History}
-use Rattle.lra_journal.specs.Line.{line, header}
+use Rattle.lra_lines.specs.Line.{line, header}
 use Rattle.lra_commands.specs.declared.command.Told.{Told}
 use Rattle.lra_commands.specs.declared.command.Told.TheVariants as told
 use Rattle.lra_commands.specs.declared.refusal.Refusal.{Refusal}

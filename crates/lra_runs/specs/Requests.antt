@@ -6,7 +6,7 @@ use Rattle.std.specs.List.{join_with_byte, list_all}
 use Rattle.std.specs.Str.{bytes_eq, is_utf8}
 use Rattle.lra_model.specs.Addresses.{Addresses}
 use Rattle.lra_model.specs.Names.{outcome_name, ending_name}
-use Rattle.lra_journal.specs.Line.{or_star, line_of}
+use Rattle.lra_lines.specs.Line.{or_star, line_of}
 use Rattle.lra_runs.specs.declared.requests.Request.{Request}
 use Rattle.lra_runs.specs.declared.requests.Request.TheVariants as request
 use Rattle.lra_runs.specs.declared.requests.RequestLine.{RequestLine}

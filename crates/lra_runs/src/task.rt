@@ -14,7 +14,7 @@ use lra_reports::{Question, read_question};
 const MOST_WORKERS: u32 = 16;
 
 /// Task that the program `lra` is asked to do.
-#[derive(Clone, Copy, Debug)]
+#[derive(Clone, Copy)]
 pub enum Task<'a> {
     /// Question to a program that reads and reports.
     Question(Question<'a>),

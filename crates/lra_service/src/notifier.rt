@@ -11,7 +11,7 @@ use std::sync::Wait;
 use std::time::Clock;
 
 /// Notifier that drops all lines and events.
-#[derive(Clone, Copy, Debug)]
+#[derive(Clone, Copy)]
 pub struct NullNotifier;
 
 impl Notifier for NullNotifier {

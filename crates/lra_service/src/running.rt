@@ -50,7 +50,7 @@ use std::thread::Threads;
 use std::time::Clock;
 
 /// End of a service, without a fault.
-#[derive(Clone, Copy, Debug, PartialEq, Eq)]
+#[derive(Clone, Copy, PartialEq, Eq)]
 pub enum ServiceOutcome {
     /// The journal isn't sound: its audit was written, and this is the program's status.
     Unsound(u8),

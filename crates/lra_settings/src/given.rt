@@ -8,7 +8,7 @@ use crate::parameter::Parameter;
 use crate::settings::Settings;
 
 /// The values that one source gives to the settings. A setting that it doesn't give is `None`.
-#[derive(Clone, Copy, Debug, PartialEq, Eq)]
+#[derive(Clone, Copy, PartialEq, Eq)]
 pub struct Given {
     pub connections: Option<u64>,
     pub callbacks: Option<u64>,

@@ -4,7 +4,7 @@ ghost use Rattle.std.specs.Prelude.{◌≡◌, ◌&&◌, IfSome, nat_le};
 ghost use Rattle.lra_settings.specs.Parameters.{name_of, least_of, most_of, fits};
 
 /// A setting that is a number.
-#[derive(Clone, Copy, Debug, PartialEq, Eq)]
+#[derive(Clone, Copy, PartialEq, Eq)]
 pub enum Parameter {
     Connections,
     Callbacks,

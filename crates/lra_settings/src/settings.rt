@@ -7,7 +7,7 @@ use crate::parameter::Parameter;
 
 /// The settings of a service: how much it handles at once, its time-outs, when a folder's journals are rotated, and the
 /// default limit of starts.
-#[derive(Clone, Copy, Debug, PartialEq, Eq)]
+#[derive(Clone, Copy, PartialEq, Eq)]
 pub struct Settings {
     /// The number of connections at once.
     pub connections: u64,

@@ -7,7 +7,7 @@ use lra_model::{ActionStatus, AskKind, Direction, MemberStatus, Outcome};
 use std::marker::Model;
 
 /// A limit in milliseconds, where 0 is none, and the moment that it counts from.
-#[derive(Clone, Copy, Debug)]
+#[derive(Clone, Copy)]
 pub struct Limit {
     pub length: u64,
     pub since: u64,
@@ -24,7 +24,7 @@ impl Model for Limit {
 }
 
 /// The presence of each address of a member.
-#[derive(Clone, Copy, Debug)]
+#[derive(Clone, Copy)]
 pub struct Presence {
     pub compensate: bool,
     pub complete: bool,
@@ -57,7 +57,7 @@ impl Model for Presence {
 }
 
 /// An ask that its member hasn't answered. A restart may have made it void.
-#[derive(Clone, Copy, Debug)]
+#[derive(Clone, Copy)]
 pub struct Standing {
     pub number: u64,
     pub kind: AskKind,
@@ -75,7 +75,7 @@ impl Model for Standing {
 }
 
 /// The unanswered ask of a member, if there is one. It takes fewer bytes than an `Option` of the ask.
-#[derive(Clone, Copy, Debug)]
+#[derive(Clone, Copy)]
 pub struct Awaited {
     number: u64,
     kind: AskKind,
@@ -142,7 +142,7 @@ impl Awaited {
 
 /// The state of a member that the rules read. There may be very many members: the wide fields come first, so that few
 /// bytes are lost between them.
-#[derive(Clone, Copy, Debug)]
+#[derive(Clone, Copy)]
 pub struct MemberState {
     pub action: u64,
     pub asked: Awaited,
@@ -203,7 +203,7 @@ pub fn was_accepted(reply: Option<Outcome>) -> bool
 
 /// The state of an action that the rules read, with counts of its staying members and of its nested actions by their
 /// status.
-#[derive(Clone, Copy, Debug)]
+#[derive(Clone, Copy)]
 pub struct ActionState {
     pub parent: Option<u64>,
     pub top: u64,

@@ -50,7 +50,7 @@ const MAX_KEPT: usize = 73_728;
 const MOST_OTHERS: u64 = 999;
 
 /// Step that comes next.
-#[derive(Clone, Copy, Debug, PartialEq, Eq)]
+#[derive(Clone, Copy, PartialEq, Eq)]
 pub enum Step {
     /// More bytes have to come.
     NeedsInput,

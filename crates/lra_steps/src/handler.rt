@@ -10,7 +10,7 @@ use lra_ids::{Base, Instance};
 use std::alloc::Global;
 
 /// Answer to a request, and the position in a journal that it depends on.
-#[derive(Clone, Copy, Debug, PartialEq, Eq)]
+#[derive(Clone, Copy, PartialEq, Eq)]
 pub struct Answered {
     /// Instance whose identifiers the answer names.
     pub instance: Instance,

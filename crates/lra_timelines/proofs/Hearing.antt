@@ -16,7 +16,7 @@ use Rattle.lra_laws.specs.Snapshots.{StateSnapshot, snapshot_of, StandsFor, Foll
 use Rattle.lra_laws.proofs.Legal.{legal_push, allows_from}
 use Rattle.lra_laws.proofs.Push.{step, steps_push}
 use Rattle.lra_ids.specs.Addresses.{is_address}
-use Rattle.lra_journal.specs.Line.{line, line_of, header, text}
+use Rattle.lra_lines.specs.Line.{line, line_of, header, text}
 use Rattle.lra_auditor.specs.declared.reading.Stage.{Stage}
 use Rattle.lra_auditor.specs.declared.reading.Stage.TheVariants.{Header, Entries, Faulty, Spent}
 use Rattle.lra_auditor.specs.Heard.{Heard}

@@ -21,7 +21,7 @@ use Rattle.lra_model.specs.declared.version.Version.{Version}
 use Rattle.lra_model.specs.History.{History, read_deeds, started_by, actions, last_moment}
 use Rattle.lra_laws.specs.Rows.{row_at}
 use Rattle.lra_laws.proofs.Push.{read_push}
-use Rattle.lra_journal.proofs.Apart.{texts_apart}
+use Rattle.lra_lines.proofs.Apart.{texts_apart}
 use Rattle.lra_ids.specs.Identifiers.{id_text, action_uri}
 use Rattle.lra_ids.proofs.IdentifierFacts.{length-id_text}
 use Rattle.lra_course.specs.declared.listing.ListedAction.{ListedAction}

@@ -15,7 +15,7 @@ use Rattle.lra_model.specs.Words.{same_status}
 use Rattle.lra_model.specs.Names.{action_status_name, member_status_name}
 use Rattle.lra_model.specs.History.{History, started_by, last_moment}
 use Rattle.lra_ids.specs.Identifiers.{id_text}
-use Rattle.lra_journal.specs.Line.{or_star}
+use Rattle.lra_lines.specs.Line.{or_star}
 use Rattle.lra_course.specs.declared.listing.ListedAction.{ListedAction}
 use Rattle.lra_course.specs.declared.listing.ListedMember.{ListedMember}
 use Rattle.lra_course.specs.Listings.{listed_action, listing}

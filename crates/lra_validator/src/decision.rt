@@ -4,7 +4,7 @@ use lra_commands::Told;
 use lra_model::Entry;
 
 /// The decision on a command that isn't refused.
-#[derive(Debug, Drop)]
+#[derive(Drop)]
 pub enum Decision {
     /// It writes nothing, and this is its answer.
     Told(Told),

@@ -7,7 +7,7 @@ ghost use Rattle.lra_validator.specs.CommandValues.{carried_of};
 use lra_model::{AskKind, Direction};
 
 /// The parts of an errand that decide whether its reply may come.
-#[derive(Clone, Copy, Debug, PartialEq, Eq)]
+#[derive(Clone, Copy, PartialEq, Eq)]
 pub struct Carried {
     pub ask: u64,
     pub member: u64,

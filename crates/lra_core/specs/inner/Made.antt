@@ -6,7 +6,7 @@ use Rattle.lra_model.specs.declared.entry.Deed.TheVariants as deed
 use Rattle.lra_model.specs.declared.entry.Entry.{Entry}
 use Rattle.lra_model.specs.History.{History}
 use Rattle.lra_model.specs.Members.{ask_direction}
-use Rattle.lra_journal.specs.Line.{line}
+use Rattle.lra_lines.specs.Line.{line}
 use Rattle.lra_tables.specs.Plans.{Planned}
 use Rattle.lra_commands.specs.declared.command.Told.{Told}
 use Rattle.lra_commands.specs.declared.limits.Terms.{Terms}

@@ -8,10 +8,10 @@ use Rattle.lra_model.specs.declared.status.Ending.{Ending}
 use Rattle.lra_model.specs.declared.status.Ending.TheVariants as ending
 use Rattle.lra_model.specs.Addresses.{Addresses}
 use Rattle.lra_model.specs.Names.{outcome_name, ending_name}
-use Rattle.lra_journal.specs.Fields.{split_words}
-use Rattle.lra_journal.specs.Reading.{Words, number_or_star_of, next_of, number_at, unended}
+use Rattle.lra_lines.specs.Fields.{split_words}
+use Rattle.lra_lines.specs.Reading.{Words, number_or_star_of, next_of, number_at}
 use Rattle.lra_entries.specs.inner.Digits.{◌>>=◌}
-use Rattle.lra_journal.specs.inner.Combinators.{named, whole_of}
+use Rattle.lra_lines.specs.inner.Combinators.{named, whole_of, unended}
 use Rattle.lra_runs.specs.declared.requests.Request.{Request}
 use Rattle.lra_runs.specs.declared.requests.Request.TheVariants as request
 use Rattle.lra_runs.specs.declared.requests.RequestName.{RequestName}

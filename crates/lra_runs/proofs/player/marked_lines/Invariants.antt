@@ -1,6 +1,6 @@
 use Rattle.std.proofs.Common.{◌≡◌, ◌++◌, length}
 use Rattle.std.specs.List.{flat_map}
-use Rattle.lra_journal.specs.Lines.{lines_of}
+use Rattle.lra_lines.specs.Lines.{lines_of}
 use Rattle.lra_runs.specs.Play.{marked}
 use Rattle.lra_runs.proofs.player.marked_lines.Given as goal
 

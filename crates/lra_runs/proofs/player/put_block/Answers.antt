@@ -5,7 +5,7 @@ use Rattle.std.specs.Option.{option_map_or}
 use Rattle.std.specs.Io.KnownBytes.{Appends}
 use Rattle.std.proofs.KnownBytes.{Appends-trans}
 use Rattle.std.proofs.lemmas.Result.{on_ok_weaker}
-use Rattle.lra_journal.specs.Lines.{lines_of}
+use Rattle.lra_lines.specs.Lines.{lines_of}
 use Rattle.lra_runs.specs.Play.{answer_line, errand_line, marked}
 use Rattle.lra_runs.proofs.player.put_block.Goals as goal
 

@@ -1,5 +1,5 @@
 use Rattle.std.proofs.Common.{refl, sym, ◌∙◌}
-use Rattle.lra_journal.proofs.Naming.{next_named_none}
+use Rattle.lra_lines.proofs.Naming.{next_named_none}
 use Rattle.lra_runs.specs.inner.RequestReading.{request_name, request_names}
 use Rattle.lra_runs.proofs.requests.request_name.Goals as goal
 
