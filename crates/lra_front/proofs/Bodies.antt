@@ -1,24 +1,21 @@
 -- What can be read from a body.
-use Rattle.std.proofs.Common.{◌≡◌, ℕ, ◌<◌, Bool, true, false, ◌&&◌, List, [], ◌∷◌, length, Option, Some, None, IfSome}
-use Rattle.std.proofs.Common.{IsSome, option_and_then, is_some, true≢false, inl, inr, Ok, Err, refl, sym, ap, ◌∙◌}
-use Rattle.std.proofs.Common.{subst, arith}
+use Rattle.std.proofs.Common.{◌≡◌, ℕ, ◌<◌, ◌≤◌, Bool, true, false, ◌&&◌, List, [], ◌∷◌, length, Option, Some, None}
+use Rattle.std.proofs.Common.{IfSome, IsSome, option_and_then, is_some, true≢false, Result, Ok, refl, sym}
+use Rattle.std.proofs.Common.{ap, ◌∙◌, subst, arith}
 use Rattle.std.specs.Str.{is_utf8, IsUtf8}
 use Rattle.std.proofs.lemmas.Str.{is_utf8-from_IsUtf8, IsUtf8-from_is_utf8}
-use Rattle.serde_json.specs.Data.{Data, Members, no_members, object}
-use Rattle.serde_json.specs.declared.value.Value.{Value}
-use Rattle.serde_json.specs.View.{view}
-use Rattle.lra_front.specs.declared.api_error.ApiError.{ApiError}
-use Rattle.lra_front.specs.declared.api_error.ApiError.TheVariants.{BadBody}
-use Rattle.lra_front.specs.inner.Reads.{ReadsObject, ReadsBody}
-use Rattle.serde_json.specs.Read.{read}
+use Rattle.serde_json.specs.Data.{Data, Members, depth}
+use Rattle.serde_json.specs.Read.{read, max_depth}
 use Rattle.serde_json.specs.Find.{as_object}
 use Rattle.lra_front.specs.declared.operation.Operation.{Operation}
+use Rattle.lra_front.specs.declared.api_error.ApiError.{ApiError}
 use Rattle.lra_model.specs.declared.status.Ending.{Ending}
 use Rattle.lra_model.specs.declared.status.Ending.TheVariants as ending
 use Rattle.lra_model.specs.Names.{ending_name}
+use Rattle.lra_model.specs.Words.{when}
 use Rattle.lra_model.proofs.ByName.{found_by_name}
 use Rattle.lra_front.specs.Bodies.{endings, ending_named, object_in, reads_body, members_fit, has_needed, fitting}
-use Rattle.lra_front.specs.Bodies.{body_of}
+use Rattle.lra_front.specs.Bodies.{body_of, IsValueOf}
 
 itself : (e : Ending) → Some e ≡ ending_named (ending_name e)
 itself ending.Completed = refl
@@ -54,72 +51,57 @@ pub object_err : (body : List ℕ) → 0 < length body → (IsUtf8 body → read
 object_err [] some h = absurd (omega arith)
 object_err (b ∷ rest) some h = object_by b rest (is_utf8 (b ∷ rest)) refl h
 
--- ---- what an operation reads of it
+-- ---- the value that is read of a body for an operation
 
-body_unread : (r : Operation) (b : List ℕ) → reads_body r ≡ false → body_of r b ≡ Some no_members
-unfolding body_of
-body_unread r b e = rw e refl
+pub value_ok : (r : Operation) (b : List ℕ) (d : Data) → reads_body r ≡ true → 0 < length b → IsUtf8 b
+    → read b ≡ Some d → depth d ≤ max_depth → IsValueOf (Ok r) b (Some d)
+value_ok r b d e some text is nests = (rw e (object_ok b d some text is), nests)
 
-body_read : (r : Operation) (b : List ℕ) (o : Option Members) → reads_body r ≡ true → object_in b ≡ o → body_of r b
-    ≡ option_and_then (fitting r) o
-unfolding body_of
-body_read r b o e is = rw (e, is) refl
+pub value_err : (r : Operation) (b : List ℕ) → reads_body r ≡ true → 0 < length b → (IsUtf8 b → read b ≡ None)
+    → IsValueOf (Ok r) b None
+value_err r b e some h = rw e (object_err b some h)
 
-body_fits : (r : Operation) (o : Option Members) (t : Bool) → IsSome o
-    → IfSome o (λ m. t ≡ (members_fit r m && has_needed r m)) → t ≡ true
+-- ---- whether it fits the operation
+
+pub is_some_when : (t : Bool) (ms : Members) → t ≡ is_some (when t ms)
+is_some_when true ms = refl
+is_some_when false ms = refl
+
+same_when : (t : Bool) (ms : Members) → is_some (when t ms) ≡ true → when t ms ≡ Some ms
+same_when true ms e = refl
+same_when false ms e = absurd (true≢false (sym e))
+
+fitting_is : (r : Operation) (o : Option Members) → is_some (option_and_then (fitting r) o) ≡ true
     → option_and_then (fitting r) o ≡ o
-body_fits r None t found h does = absurd (true≢false (sym found))
-body_fits r (Some m) t found h does = rw (sym h ∙ does) refl
+fitting_is r None e = refl
+fitting_is r (Some ms) e = same_when (members_fit r ms && has_needed r ms) ms e
 
-body_unfit : (r : Operation) (o : Option Members) (t : Bool) → IfSome o (λ m. t ≡ (members_fit r m && has_needed r m))
-    → t ≡ false
-    → option_and_then (fitting r) o ≡ None
-body_unfit r None t h fails = refl
-body_unfit r (Some m) t h fails = rw (sym h ∙ fails) refl
+none_of : {A : Type 0} (o : Option A) → is_some o ≡ false → o ≡ None
+none_of None e = refl
+none_of (Some x) e = absurd (true≢false e)
 
--- ---- the result of reading
+-- the members of a body whose value is known
+members_are : (r : Operation) (found : Result Operation ApiError) (b : List ℕ) (d : Data) → found ≡ Ok r
+    → IsValueOf found b (Some d) → body_of r b ≡ option_and_then (fitting r) (as_object d)
+unfolding body_of
+members_are r found b d e h =
+    let held : IsValueOf (Ok r) b (Some d) = subst (λ f. IsValueOf f b (Some d)) e h in
+    ap (option_and_then (fitting r)) held.0
 
-pub found_empty : (body : List ℕ) (d : Data) → length body ≡ 0 → d ≡ object no_members → (object_in body ≡ as_object d)
-    × IsSome (object_in body)
-found_empty [] d e is = (rw is refl, refl)
-found_empty (b ∷ rest) d e is = absurd (omega arith)
+pub fits_value : (r : Operation) (found : Result Operation ApiError) (b : List ℕ) (d : Data) → found ≡ Ok r
+    → IsValueOf found b (Some d) → is_some (option_and_then (fitting r) (as_object d)) ≡ true
+    → (body_of r b ≡ as_object d) × IsSome (body_of r b)
+fits_value r found b d e h fits =
+    let are = members_are r found b d e h in
+    (are ∙ fitting_is r (as_object d) fits, ap is_some are ∙ fits)
 
-some_of : {A : Type 0} (o p : Option A) → o ≡ p → is_some p ≡ true → IsSome o
-some_of o p e h = ap is_some e ∙ h
+pub unfit_value : (r : Operation) (found : Result Operation ApiError) (b : List ℕ) (d : Data) → found ≡ Ok r
+    → IsValueOf found b (Some d) → is_some (option_and_then (fitting r) (as_object d)) ≡ false → body_of r b ≡ None
+unfit_value r found b d e h fits = members_are r found b d e h ∙ none_of _ fits
 
-pub found_object : (body : List ℕ) (d : Data) → 0 < length body → IsUtf8 body → read body ≡ Some d
-    → is_some (as_object d) ≡ true
-    → (object_in body ≡ as_object d) × IsSome (object_in body)
-found_object body d some text e is =
-    let found = object_ok body d some text e in (found, some_of (object_in body) (as_object d) found is)
-
-pub found_other : (body : List ℕ) (d : Data) → 0 < length body → IsUtf8 body → read body ≡ Some d
-    → is_some (as_object d) ≡ false → object_in body ≡ None
-found_other body d some text e is = object_ok body d some text e ∙ none_of (as_object d) is
-  where
-    none_of : (o : Option Members) → is_some o ≡ false → o ≡ None
-    none_of None h = refl
-    none_of (Some m) h = absurd (true≢false h)
-
-pub unread : (r : Operation) (b : List ℕ) (v : Value) → reads_body r ≡ false → view v ≡ object no_members
-    → ReadsBody r b (Ok v)
-unread r b v e is = let blank = body_unread r b e in
-    (blank ∙ rw is refl, some_of (body_of r b) (Some no_members) blank refl)
-
-pub read_denied : (r : Operation) (b : List ℕ) (d : ApiError) → reads_body r ≡ true → ReadsObject b (Err d)
-    → ReadsBody r b (Err d)
-read_denied r b d e (inl memory) = inl (e, memory)
-read_denied r b d e (inr (bad, none)) = inr (bad, body_read r b None e none)
-
-pub read_fits : (r : Operation) (b : List ℕ) (v : Value) (t : Bool) → reads_body r ≡ true → ReadsObject b (Ok v)
-    → IfSome (as_object (view v)) (λ m. t ≡ (members_fit r m && has_needed r m)) → t ≡ true → ReadsBody r b (Ok v)
-read_fits r b v t e (is, found) h does =
-    let there : IsSome (as_object (view v)) = some_of (as_object (view v)) (object_in b) (sym is) found in
-    let whole = body_read r b (as_object (view v)) e is ∙ body_fits r (as_object (view v)) t there h does in
-    (whole, some_of (body_of r b) (as_object (view v)) whole there)
-
-pub read_unfit : (r : Operation) (b : List ℕ) (v : Value) (t : Bool) → reads_body r ≡ true → ReadsObject b (Ok v)
-    → IfSome (as_object (view v)) (λ m. t ≡ (members_fit r m && has_needed r m)) → t ≡ false
-    → ReadsBody r b (Err BadBody)
-read_unfit r b v t e (is, found) h fails =
-    inr (refl, body_read r b (as_object (view v)) e is ∙ body_unfit r (as_object (view v)) t h fails)
+pub no_value : (r : Operation) (found : Result Operation ApiError) (b : List ℕ) → found ≡ Ok r
+    → IsValueOf found b None → body_of r b ≡ None
+unfolding body_of
+no_value r found b e h =
+    let held : IsValueOf (Ok r) b None = subst (λ f. IsValueOf f b None) e h in
+    ap (option_and_then (fitting r)) held

@@ -1,6 +1,6 @@
 mod Routing
 mod Replying
-mod Bodies
+pub mod Bodies
 mod Requesting
 mod TimedRequest
 mod Streaming

@@ -1,11 +1,11 @@
 -- The body of a request, and what can be read from it.
-use Rattle.std.specs.Prelude.{ℕ, Bool, true, false, ◌&&◌, is_some, if◌then◌else◌, List, [], ◌∷◌, codes, bytes_eq}
-use Rattle.std.specs.Prelude.{Option, Some, None, option_and_then}
+use Rattle.std.specs.Prelude.{◌≡◌, ◌≢◌, ℕ, ◌≤◌, Bool, true, false, ◌&&◌, is_some, if◌then◌else◌, List, [], ◌∷◌, codes}
+use Rattle.std.specs.Prelude.{bytes_eq, Option, Some, None, option_and_then, Result, Ok, Err}
 use Rattle.std.specs.Option.{option_map_or}
 use Rattle.std.specs.List.{find}
 use Rattle.std.specs.Str.{is_utf8}
-use Rattle.serde_json.specs.Data.{Data, Members, no_members, member}
-use Rattle.serde_json.specs.Read.{read}
+use Rattle.serde_json.specs.Data.{Data, Members, no_members, member, depth}
+use Rattle.serde_json.specs.Read.{read, max_depth}
 use Rattle.serde_json.specs.Find.{get_member, as_object, as_str, as_number, as_u64}
 use Rattle.lra_model.specs.declared.status.Ending.{Ending}
 use Rattle.lra_model.specs.declared.status.Ending.TheVariants as ending
@@ -14,6 +14,7 @@ use Rattle.lra_model.specs.Addresses.{Addresses}
 use Rattle.lra_model.specs.Words.{when}
 use Rattle.lra_front.specs.declared.operation.Operation.{Operation}
 use Rattle.lra_front.specs.declared.operation.Operation.TheVariants as operation
+use Rattle.lra_front.specs.declared.api_error.ApiError.{ApiError}
 use Rattle.lra_front.specs.declared.body.Kind.{Kind}
 use Rattle.lra_front.specs.declared.body.Kind.TheVariants.{Text, Number}
 
@@ -101,10 +102,28 @@ reads_body operation.Status = false
 reads_body operation.MemberStatus = false
 reads_body _ = true
 
+-- the object of the body that an operation reads: one without members where it doesn't read its body
+abbrev pub object_for : Operation → List ℕ → Option Members
+object_for r body = if reads_body r then object_in body else Some no_members
+
 -- the members, where they make a body that the operation reads
 abbrev pub fitting : Operation → Members → Option Members
 fitting r members = when (members_fit r members && has_needed r members) members
 
 -- the members of a body, where it is one that the operation reads
 unfoldable pub body_of : Operation → List ℕ → Option Members
-body_of r body = if reads_body r then option_and_then (fitting r) (object_in body) else Some no_members
+body_of r body = option_and_then (fitting r) (object_for r body)
+
+-- ---- the value of a body, which is read once for the operation that the router found
+
+-- What is read of a body: a value with the object that it is for the operation, which nests no deeper than can be read;
+-- or nothing, where it isn't JSON. Without an operation no body is read.
+abbrev pub IsValueOf : Result Operation ApiError → List ℕ → Option Data → Type 0
+IsValueOf (Ok r) body None = object_for r body ≡ None
+IsValueOf (Ok r) body (Some value) = (object_for r body ≡ as_object value) × (depth value ≤ max_depth)
+IsValueOf (Err d) body value = value ≡ None
+
+-- memory may be refused for the value: there is an operation that reads its body, and the body isn't empty
+abbrev pub NeedsMemory : Result Operation ApiError → List ℕ → Type 0
+NeedsMemory (Ok r) body = (reads_body r ≡ true) × (body ≢ [])
+NeedsMemory (Err d) body = ⊥

@@ -5,20 +5,18 @@ ghost use Rattle.serde_json.specs.Find.{as_object};
 ghost use Rattle.serde_json.specs.View.{view};
 ghost use Rattle.lra_model.specs.Addresses.{text_of};
 ghost use Rattle.lra_ids.specs.Identifiers.{id_text, action_uri, recovery_uri};
-ghost use Rattle.lra_wire.specs.Request.{request_of};
 ghost use Rattle.lra_front.specs.Bodies.{addresses_given};
 ghost use Rattle.lra_front.specs.ApiRequests as spec;
-ghost use Rattle.lra_front.specs.Routes.{operation_of};
 ghost use Rattle.lra_front.specs.inner.Finds.{IsFound, is_of_action, is_of_member, OrMemory};
 
 use crate::api_error::ApiError;
 use crate::body::{ending_told, number_under, text_under};
 use crate::operation::Operation;
 use crate::route::id_in;
+use crate::routed_request::RoutedRequest;
 use lra_commands::{Order, Refusal};
 use lra_ids::{Base, Instance, read_id};
 use lra_model::{Ending, Memory, Uris};
-use lra_wire::RequestRead;
 use serde_json::Value;
 use std::alloc::Global;
 
@@ -239,18 +237,17 @@ impl Operation {
     }
 }
 
-/// Returns the API request of a request for the operation that the router found, or why there is none.
+/// Returns the API request of a request, or why there is none.
 pub(crate) fn read_request(
     alloc: Global,
     instance: Instance,
     base: &Base,
-    found: Result<Operation, ApiError>,
-    request: &RequestRead,
+    request: &RoutedRequest<'_>,
 ) -> Result<ApiRequest, ApiError>
-    requires { found ≡ operation_of (request_of request.now).method (request_of request.now).target }
-    ensures { spec.MayAsk instance base.now (request_of request.now) result }
+    ensures { spec.MayAsk instance base.now request.now result }
 {
-    let operation = found?;
-    let body = operation.read_body(alloc, request.body.as_slice())?;
-    operation.api_request(alloc, instance, base, id_in(request.target.as_str()), &body)
+    let operation = request.operation()?;
+    let body = request.fitting_body(operation)?;
+    let id = id_in(request.request().target.as_str());
+    operation.api_request(alloc, instance, base, id, body)
 }

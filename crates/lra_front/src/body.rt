@@ -1,16 +1,14 @@
 //! The body of a request, and how it is read.
 
-ghost use Rattle.std.specs.Prelude.{◌≡◌, ◌&&◌, is_some, option_map, IfSome};
+ghost use Rattle.std.specs.Prelude.{◌≡◌, is_some, option_map, option_and_then, IfOk, IfSome, OnErr, Ok};
 ghost use Rattle.serde_json.specs.Data.{object, no_members};
 ghost use Rattle.serde_json.specs.Find.{as_object};
 ghost use Rattle.serde_json.specs.View.{view, members_view};
 ghost use Rattle.lra_front.specs.Bodies as spec;
-ghost use Rattle.lra_front.specs.inner.Reads.{ReadsObject, ReadsBody};
 
 use crate::api_error::ApiError;
 use crate::operation::Operation;
-use lra_commands::Refusal;
-use lra_model::Ending;
+use lra_model::{Ending, Memory};
 use serde_json::Value;
 use serde_json::value::Map;
 use std::alloc::Global;
@@ -141,45 +139,46 @@ fn empty_object(alloc: Global) -> Value
     Value::Object(Map::new(alloc))
 }
 
-/// Reads the object that a body is. An empty body is an object without members.
-fn object_in(alloc: Global, body: &[u8]) -> Result<Value, ApiError>
-    ensures { ReadsObject body.now result }
-{
-    if body.is_empty() {
-        return Ok(empty_object(alloc));
-    }
-    match Value::from_slice(alloc, body) {
-        Ok(value) if value.is_object() => Ok(value),
-        Ok(_) => Err(ApiError::BadBody),
-        Err(error) if error.is_memory() => Err(ApiError::Refused(Refusal::Memory)),
-        Err(_) => Err(ApiError::BadBody),
-    }
-}
-
 impl Operation {
-    /// Reads the object that a body is. It is empty where the operation reads no body. Returns `BadBody` where the body
-    /// doesn't fit the operation.
-    pub(crate) fn read_body(self, alloc: Global, body: &[u8]) -> Result<Value, ApiError>
-        ensures { ReadsBody self body.now result }
+    /// Reads the value of a body, and returns it if the body is JSON. It is an object without members where the body is
+    /// empty, or the operation doesn't read it.
+    fn read_body(self, alloc: Global, body: &[u8]) -> Result<Option<Value>, Memory>
+        ensures ok { IfOk result (λ value. spec.IsValueOf (Ok self) body.now (option_map view value)) }
+        ensures err { OnErr result (spec.NeedsMemory (Ok self) body.now) }
     {
-        if !self.reads_body() {
-            return Ok(empty_object(alloc));
+        if body.is_empty() || !self.reads_body() {
+            return Ok(Some(empty_object(alloc)));
         }
-        match object_in(alloc, body) {
-            Ok(value) if self.fits(&value) => Ok(value),
-            Ok(_) => Err(ApiError::BadBody),
-            Err(api_error) => Err(api_error),
+        match Value::from_slice(alloc, body) {
+            Ok(value) => Ok(Some(value)),
+            Err(error) if error.is_memory() => Err(Memory),
+            Err(_) => Ok(None),
         }
     }
 
-    /// Returns whether the operation's body may be this object.
-    fn fits(self, body: &Value) -> bool
-        ensures { IfSome (as_object (view body.now)) (λ members. result
-            ≡ (spec.members_fit self members && spec.has_needed self members)) }
+    /// Returns whether the operation's body may be this value: an object with the members that it needs, and no others
+    /// than it may have.
+    pub fn fits(self, body: &Value) -> bool
+        ensures { result ≡ is_some (option_and_then (spec.fitting self) (as_object (view body.now))) }
     {
         match body.as_object() {
             Some(members) => self.members_fit(members) && self.has_needed(body),
             None => false,
         }
+    }
+}
+
+/// Reads the value of a request's body for the operation that the router found, if it found one.
+pub(crate) fn read_body(
+    alloc: Global,
+    operation: Result<Operation, ApiError>,
+    body: &[u8],
+) -> Result<Option<Value>, Memory>
+    ensures ok { IfOk result (λ value. spec.IsValueOf operation body.now (option_map view value)) }
+    ensures err { OnErr result (spec.NeedsMemory operation body.now) }
+{
+    match operation {
+        Ok(operation) => operation.read_body(alloc, body),
+        Err(_) => Ok(None),
     }
 }

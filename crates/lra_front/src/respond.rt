@@ -3,14 +3,12 @@
 ghost use Rattle.std.specs.Prelude.{◌≡◌};
 ghost use Rattle.lra_wire.specs.Request.{request_of};
 ghost use Rattle.lra_front.specs.Replies.{HasIdentifiers};
-ghost use Rattle.lra_front.specs.Routes.{operation_of};
 ghost use Rattle.lra_front.specs.Serving.{Answers, Orders, Responds, TellsOf};
 ghost use Rattle.lra_front.specs.inner.Tellable.{IsAnswerable, IsTellable};
 
 use crate::answer::Answer;
 use crate::api_error::ApiError;
 use crate::api_request::{ApiRequest, read_request};
-use crate::operation::Operation;
 use crate::route::Routes;
 use crate::routed_request::RoutedRequest;
 use lra_commands::{Counter, CounterFault, Told};
@@ -58,29 +56,6 @@ fn answer(api_request: &ApiRequest, reply: Result<Told, CounterFault>) -> Answer
     }
 }
 
-/// Answers a request for the operation that the router found, at a moment. Returns also whether the counter was given
-/// an order.
-fn respond_for<C: Counter>(
-    alloc: Global,
-    counter: &mut C,
-    moment: u64,
-    found: Result<Operation, ApiError>,
-    request: &RequestRead,
-) -> (Answer, bool)
-    requires { found ≡ operation_of (request_of request.now).method (request_of request.now).target }
-    ensures orders { Orders C.gives (C.sight counter.old) moment (request_of request.now) (C.sight counter.new)
-        result.0 result.1 }
-    ensures identifiers { HasIdentifiers result.0 }
-{
-    match read_request(alloc, counter.instance(), counter.base(), found, request) {
-        Ok(api_request) => {
-            let reply = counter.give(moment, &api_request.order());
-            (answer(&api_request, reply), true)
-        }
-        Err(api_error) => (Answer::Denied(api_error), false),
-    }
-}
-
 impl Routes {
     /// Answers a request at a moment. It gives the counter at most one order.
     pub fn respond<C: Counter>(
@@ -95,8 +70,9 @@ impl Routes {
         // The answer's numbers are those that identifiers can have.
         ensures identifiers { HasIdentifiers result }
     {
-        let found = self.operation(request.method.as_str(), request.target.as_str());
-        let (answer, _) = respond_for(alloc, counter, moment, found, request);
+        let routed = RoutedRequest::new(alloc, self, request);
+        let (answer, _) = routed.respond_ordered(alloc, counter, moment);
+        drop(routed);
         answer
     }
 }
@@ -112,6 +88,12 @@ impl<'r> RoutedRequest<'r> {
         ensures orders { Orders C.gives (C.sight counter.old) moment self.now (C.sight counter.new) result.0 result.1 }
         ensures identifiers { HasIdentifiers result.0 }
     {
-        respond_for(alloc, counter, moment, self.operation(), self.request())
+        match read_request(alloc, counter.instance(), counter.base(), self) {
+            Ok(api_request) => {
+                let reply = counter.give(moment, &api_request.order());
+                (answer(&api_request, reply), true)
+            }
+            Err(api_error) => (Answer::Denied(api_error), false),
+        }
     }
 }

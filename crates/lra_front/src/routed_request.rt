@@ -1,64 +1,80 @@
-//! A request with the operation that it asks for, which the router finds once.
+//! A request with the operation that it asks for and the value of its body: the router finds the one, and the body is
+//! read for it, once.
 
-ghost use Rattle.std.specs.Prelude.{◌≡◌};
+ghost use Rattle.std.specs.Prelude.{◌≡◌, option_map, IfOk, OnErr, Ok, Some};
+ghost use Rattle.serde_json.specs.View.{view};
 ghost use Rattle.lra_wire.specs.Request.{request_of};
 ghost use Rattle.lra_front.specs.Routes.{operation_of};
+ghost use Rattle.lra_front.specs.Bodies.{IsValueOf, NeedsMemory};
+ghost use Rattle.lra_front.specs.inner.Reads.{FitsBody};
 
 use crate::api_error::ApiError;
+use crate::body::read_body;
 use crate::operation::Operation;
 use crate::route::Routes;
+use lra_commands::Refusal;
+use lra_model::Memory;
 use lra_wire::RequestRead;
+use serde_json::Value;
+use std::alloc::Global;
 use std::marker::Model;
 
-/// Request with the operation that it asks for. A contract sees the request.
+/// Request with the operation that it asks for and the value of its body. A contract sees the request.
 #[derive(Drop)]
 pub struct RoutedRequest<'r> {
     routes: &'r Routes,
     request: &'r RequestRead,
     operation: Result<Operation, ApiError>,
+    body: Result<Option<Value>, Memory>,
 }
 
 impl<'r> Model for RoutedRequest<'r> {
-    ghost use Rattle.std.specs.Prelude.{◌≡◌, string_bytes};
     ghost use Rattle.lra_wire.specs.Request.{Request, request_of};
-    ghost use Rattle.lra_front.specs.Routes.{operation_of};
+    ghost use Rattle.lra_front.specs.inner.Holds.{HoldsParts};
 
     ghost Value = { Request };
 
     ghost view = { λ r. request_of r.request.now };
 
-    ghost invariant = { λ r. r.operation
-        ≡ operation_of (string_bytes r.request.now.method) (string_bytes r.request.now.target) };
+    ghost invariant = { λ r. HoldsParts (request_of r.request.now) r.operation r.body };
 }
 
 impl<'r> RoutedRequest<'r> {
-    /// Asks the router for the operation of a request.
-    pub fn new(routes: &'r Routes, request: &'r RequestRead) -> RoutedRequest<'r>
+    /// Asks the router for the operation of a request, and reads the body if the operation does.
+    pub fn new(alloc: Global, routes: &'r Routes, request: &'r RequestRead) -> RoutedRequest<'r>
         ensures { result ≡ request_of request.now }
     {
         let operation = routes.operation(request.method.as_str(), request.target.as_str());
+        let body = read_body(alloc, operation, request.body.as_slice());
         RoutedRequest {
             routes,
             request,
             operation,
+            body,
         }
     }
 
-    /// Returns another request with the operation that it asks for. The router is asked only if the other request has
-    /// another method or target.
-    pub fn with<'s>(&'s self, request: &'s RequestRead) -> RoutedRequest<'s>
+    /// Returns another request with the operation that it asks for and the value of its body.
+    pub fn with<'s>(&'s self, alloc: Global, request: &'s RequestRead) -> RoutedRequest<'s>
         ensures { result ≡ request_of request.now }
     {
-        if request.method.as_str() == self.request.method.as_str()
-            && request.target.as_str() == self.request.target.as_str()
-        {
-            RoutedRequest {
-                routes: self.routes,
-                request,
-                operation: self.operation,
-            }
-        } else {
-            RoutedRequest::new(self.routes, request)
+        RoutedRequest::new(alloc, self.routes, request)
+    }
+
+    /// Returns another request for the same operation, of which the value of the body is known. Neither is the router
+    /// asked, nor the body read.
+    pub fn with_body<'s>(&'s self, request: &'s RequestRead, value: Value) -> RoutedRequest<'s>
+        requires method { (request_of request.now).method ≡ self.now.method }
+        requires target { (request_of request.now).target ≡ self.now.target }
+        requires body { IsValueOf (operation_of self.now.method self.now.target) (request_of request.now).body
+            (Some (view value)) }
+        ensures { result ≡ request_of request.now }
+    {
+        RoutedRequest {
+            routes: self.routes,
+            request,
+            operation: self.operation,
+            body: Ok(Some(value)),
         }
     }
 
@@ -76,15 +92,35 @@ impl<'r> RoutedRequest<'r> {
         self.operation
     }
 
-    /// Returns the operation that a request with this one's method and that target asks for. The router is asked only
-    /// if this is another target.
-    pub fn operation_at(&self, target: &str) -> Result<Operation, ApiError>
-        ensures { result ≡ operation_of self.now.method target.now }
+    /// Returns the value of the body as it was read for the operation: an object without members where the operation
+    /// doesn't read it, and nothing where it isn't JSON.
+    pub fn body(&self) -> Result<Option<&Value>, Memory>
+        ensures ok { IfOk result (λ value. IsValueOf (operation_of self.now.method self.now.target) self.now.body
+            (option_map (λ v. view v.now) value)) }
+        ensures err { OnErr result (NeedsMemory (operation_of self.now.method self.now.target) self.now.body) }
     {
-        if target == self.request.target.as_str() {
-            self.operation
-        } else {
-            self.routes.operation(self.request.method.as_str(), target)
+        match &self.body {
+            Ok(Some(value)) => Ok(Some(value)),
+            Ok(None) => Ok(None),
+            Err(Memory) => Err(Memory),
+        }
+    }
+
+    /// Returns the value of the body if it fits the operation that was found.
+    pub(crate) fn fitting_body(&self, operation: Operation) -> Result<&Value, ApiError>
+        requires { operation_of self.now.method self.now.target ≡ Ok operation }
+        ensures { FitsBody operation self.now.body result }
+    {
+        match self.body() {
+            Ok(Some(value)) => {
+                if operation.fits(value) {
+                    Ok(value)
+                } else {
+                    Err(ApiError::BadBody)
+                }
+            }
+            Ok(None) => Err(ApiError::BadBody),
+            Err(Memory) => Err(ApiError::Refused(Refusal::Memory)),
         }
     }
 }

@@ -145,7 +145,6 @@ fn is_lacked<C: Counter + Drop, K: Membership<C>>(
 /// Returns the API error for a request that can't be answered yet: the request is refused, and reaches no member.
 /// `newest` is the journal set's newest instance.
 fn put_off<C: Counter + Drop, K: Membership<C>>(
-    alloc: Global,
     journal_set: &JournalSet<C>,
     membership: &K,
     newest: Instance,
@@ -158,7 +157,7 @@ fn put_off<C: Counter + Drop, K: Membership<C>>(
     if !membership.lacks_any() {
         return None;
     }
-    let Ok(named) = instance_of(alloc, request) else {
+    let Ok(named) = instance_of(request) else {
         return Some(Answered::denied(newest, ApiError::Refused(Refusal::Memory)));
     };
     if !is_lacked(journal_set, membership, starts(request), &named) {
@@ -187,7 +186,7 @@ fn respond_at<C: Session + Drop, K: Membership<C>>(
     ensures journal_set { spec.IsJournalSet (map name journal_set.old) }
 {
     let newest = journal_set.newest();
-    match put_off(alloc, journal_set, membership, newest, request) {
+    match put_off(journal_set, membership, newest, request) {
         Some(answered) => answered,
         None => serving::respond(alloc, journal_set, moment, request),
     }

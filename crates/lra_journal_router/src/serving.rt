@@ -105,7 +105,7 @@ pub fn respond<C: Session + Drop>(
     ensures journal_set { IsJournalSet (map name journal_set.old) }
 {
     let newest = journal_set.newest();
-    let Ok(named) = naming::instance_of(alloc, request) else {
+    let Ok(named) = naming::instance_of(request) else {
         return Answered::denied(newest, ApiError::Refused(Refusal::Memory));
     };
     let instance = named.unwrap_or(newest);

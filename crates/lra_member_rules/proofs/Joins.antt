@@ -1,66 +1,55 @@
--- The body that a join reads.
-use Rattle.std.proofs.Common.{◌≡◌, ℕ, ◌<◌, Bool, true, false, List, [], ◌∷◌, length, Option, Some, None, IsSome}
-use Rattle.std.proofs.Common.{is_some, option_and_then, refl, arith}
-use Rattle.std.specs.Str.{is_utf8, IsUtf8}
-use Rattle.std.proofs.lemmas.Str.{is_utf8-from_IsUtf8, IsUtf8-from_is_utf8}
-use Rattle.serde_json.specs.Data.{Data, Members, no_members}
-use Rattle.serde_json.specs.Read.{read}
+-- The value of a join's body.
+use Rattle.std.proofs.Common.{◌≡◌, ℕ, Bool, true, false, not, List, Option, Some, None, IfSome, IsSome, is_some, Result}
+use Rattle.std.proofs.Common.{Ok, Err, option_and_then, true≢false, refl, sym, ap, subst}
+use Rattle.serde_json.specs.Data.{Data, Members}
 use Rattle.serde_json.specs.Find.{as_object}
+use Rattle.lra_front.specs.declared.operation.Operation.{Operation}
 use Rattle.lra_front.specs.declared.operation.Operation.TheVariants as operation
-use Rattle.lra_front.specs.Bodies.{members_fit, fitting, object_in, body_of}
+use Rattle.lra_front.specs.declared.api_error.ApiError.{ApiError}
+use Rattle.lra_front.specs.Bodies.{addresses_given, body_of, fitting, IsValueOf}
+use Rattle.lra_front.proofs.Bodies as front
+use Rattle.lra_member_rules.specs.Ruling.{are_let, is_outside_by, joins}
 
-object_ok : (body : List ℕ) (d : Data) → 0 < length body → IsUtf8 body → read body ≡ Some d → object_in body
-    ≡ as_object d
-object_ok [] d some text e = absurd (omega (arith, some))
-object_ok (b ∷ rest) d some text e = rw (is_utf8-from_IsUtf8 (b ∷ rest) text, e) refl
+join_is : (found : Result Operation ApiError) → joins found ≡ true → found ≡ Ok operation.Join
+join_is (Ok operation.Join) e = refl
+join_is (Ok operation.Start) e = absurd (true≢false (sym e))
+join_is (Ok operation.Status) e = absurd (true≢false (sym e))
+join_is (Ok operation.Close) e = absurd (true≢false (sym e))
+join_is (Ok operation.Cancel) e = absurd (true≢false (sym e))
+join_is (Ok operation.Remove) e = absurd (true≢false (sym e))
+join_is (Ok operation.Renew) e = absurd (true≢false (sym e))
+join_is (Ok operation.MemberStatus) e = absurd (true≢false (sym e))
+join_is (Ok operation.Report) e = absurd (true≢false (sym e))
+join_is (Err d) e = absurd (true≢false (sym e))
 
-object_by : (b : ℕ) (rest : List ℕ) (t : Bool) → is_utf8 (b ∷ rest) ≡ t → (IsUtf8 (b ∷ rest) → read (b ∷ rest) ≡ None)
-    → object_in (b ∷ rest) ≡ None
-object_by b rest true e h = rw (e, h (IsUtf8-from_is_utf8 (b ∷ rest) e)) refl
-object_by b rest false e h = rw e refl
+none_outside : (rules : List (List ℕ)) (body : List ℕ) → body_of operation.Join body ≡ None
+    → false ≡ is_outside_by rules body
+none_outside rules body e = rw e refl
 
-object_err : (body : List ℕ) → 0 < length body → (IsUtf8 body → read body ≡ None) → object_in body ≡ None
-object_err [] some h = absurd (omega (arith, some))
-object_err (b ∷ rest) some h = object_by b rest (is_utf8 (b ∷ rest)) refl h
+some_outside : (rules : List (List ℕ)) (body : List ℕ) (o : Option Members) (told : Bool)
+    → body_of operation.Join body ≡ o → IsSome o → IfSome o (λ ms. told ≡ are_let rules (addresses_given ms))
+    → not told ≡ is_outside_by rules body
+some_outside rules body None told e some h = absurd (true≢false (sym some))
+some_outside rules body (Some ms) told e some h = rw e (ap not h)
 
--- an empty body has no members
-pub empty_body : (body : List ℕ) → length body ≡ 0 → body_of operation.Join body ≡ Some no_members
-unfolding body_of
-empty_body [] e = refl
-empty_body (b ∷ rest) e = absurd (omega (arith, e))
+-- a body that isn't JSON
+pub no_value : (rules : List (List ℕ)) (found : Result Operation ApiError) (body : List ℕ) → joins found ≡ true
+    → IsValueOf found body None → false ≡ is_outside_by rules body
+no_value rules found body e h =
+    none_outside rules body (front.no_value operation.Join found body (join_is found e) h)
 
--- a body that is no JSON isn't read
-pub unread_body : (body : List ℕ) → 0 < length body → (IsUtf8 body → read body ≡ None) → body_of operation.Join body
-    ≡ None
-unfolding body_of
-unread_body body some h = rw (object_err body some h) refl
+-- a value that a join doesn't read
+pub unfit_value : (rules : List (List ℕ)) (found : Result Operation ApiError) (body : List ℕ) (d : Data)
+    → joins found ≡ true → IsValueOf found body (Some d)
+    → is_some (option_and_then (fitting operation.Join) (as_object d)) ≡ false → false ≡ is_outside_by rules body
+unfit_value rules found body d e h fits =
+    none_outside rules body (front.unfit_value operation.Join found body d (join_is found e) h fits)
 
-fitting_is : (o : Option Members) → is_some (option_and_then (fitting operation.Join) o) ≡ true
-    → (option_and_then (fitting operation.Join) o ≡ o) × IsSome o
-fitting_is None e = absurd (cc)
-fitting_is (Some ms) e = by_fit (members_fit operation.Join ms) refl e
-  where
-    by_fit : (t : Bool) → members_fit operation.Join ms ≡ t → is_some (option_and_then (fitting operation.Join)
-        (Some ms)) ≡ true → (option_and_then (fitting operation.Join) (Some ms) ≡ Some ms) × IsSome (Some ms)
-    by_fit true fits e = (rw fits refl, refl)
-    by_fit false fits e = absurd (let h : is_some (option_and_then (fitting operation.Join) (Some ms)) ≡ false =
-        rw fits refl in cc)
-
--- a body that is read fits
-pub fitting_body : (body : List ℕ) (d : Data) → 0 < length body → IsUtf8 body → read body ≡ Some d
+-- a value that it reads
+pub fit_value : (rules : List (List ℕ)) (found : Result Operation ApiError) (body : List ℕ) (d : Data) (told : Bool)
+    → joins found ≡ true → IsValueOf found body (Some d)
     → is_some (option_and_then (fitting operation.Join) (as_object d)) ≡ true
-    → (body_of operation.Join body ≡ as_object d) × IsSome (as_object d)
-unfolding body_of
-fitting_body body d some text e fits = let (same, there) = fitting_is (as_object d) fits in
-    (rw (object_ok body d some text e) same, there)
-
-none_of : (o : Option Members) → is_some o ≡ false → o ≡ None
-none_of None e = refl
-none_of (Some ms) e = absurd (cc)
-
--- or it doesn't
-pub other_body : (body : List ℕ) (d : Data) → 0 < length body → IsUtf8 body → read body ≡ Some d
-    → is_some (option_and_then (fitting operation.Join) (as_object d)) ≡ false → body_of operation.Join body ≡ None
-unfolding body_of
-other_body body d some text e fits = rw (object_ok body d some text e)
-    (none_of (option_and_then (fitting operation.Join) (as_object d)) fits)
+    → IfSome (as_object d) (λ ms. told ≡ are_let rules (addresses_given ms)) → not told ≡ is_outside_by rules body
+fit_value rules found body d told e h fits all_let =
+    let is = front.fits_value operation.Join found body d (join_is found e) h fits in
+    some_outside rules body (as_object d) told is.0 (subst IsSome is.0 is.1) all_let

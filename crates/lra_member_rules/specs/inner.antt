@@ -1,3 +1,2 @@
 -- Definitions that only private functions and proofs use.
-pub mod Joined
 pub mod Stays

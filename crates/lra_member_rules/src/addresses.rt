@@ -1,11 +1,12 @@
 //! The check of addresses by rules.
 
-ghost use Rattle.std.specs.Prelude.{◌≡◌, IfOk, IfSome};
+ghost use Rattle.std.specs.Prelude.{◌≡◌, IfOk, IfSome, IsTrue};
 ghost use Rattle.serde_json.specs.Find.{as_object};
 ghost use Rattle.serde_json.specs.View.{view};
 ghost use Rattle.lra_front.specs.Bodies.{text_under, addresses_given};
 ghost use Rattle.lra_member_rules.specs.Ruling as spec;
 
+use lra_front::{Operation, RoutedRequest};
 use lra_ids::{Address, UriFault, address};
 use lra_model::Memory;
 use lra_rules::{Rules, host_in};
@@ -55,7 +56,7 @@ fn let_under(alloc: Global, rules: &Rules, body: &Value, key: &str) -> Result<bo
 }
 
 /// Returns whether the rules let all addresses in the body of a join.
-pub(crate) fn let_all(alloc: Global, rules: &Rules, body: &Value) -> Result<bool, Memory>
+fn let_all(alloc: Global, rules: &Rules, body: &Value) -> Result<bool, Memory>
     ensures { IfOk result (λ told. IfSome (as_object (view body.now)) (λ ms. told
         ≡ spec.are_let rules.now (addresses_given ms))) }
 {
@@ -66,4 +67,22 @@ pub(crate) fn let_all(alloc: Global, rules: &Rules, body: &Value) -> Result<bool
             && let_under(alloc, rules, body, "forget")?
             && let_under(alloc, rules, body, "after")?,
     )
+}
+
+/// Returns whether the body of a join is one that a join reads, and has an address that the rules don't let.
+pub(crate) fn is_outside(
+    alloc: Global,
+    rules: &Rules,
+    join: &RoutedRequest<'_>,
+) -> Result<bool, Memory>
+    requires { IsTrue (spec.is_join join.now) }
+    ensures { IfOk result (λ told. told ≡ spec.is_outside_by rules.now join.now.body) }
+{
+    let Some(body) = join.body()? else {
+        return Ok(false);
+    };
+    if !Operation::Join.fits(body) {
+        return Ok(false);
+    }
+    Ok(!let_all(alloc, rules, body)?)
 }

@@ -2,7 +2,6 @@
 #![tactic(auto)]
 
 mod addresses;
-mod bodies;
 mod laws;
 mod member_rules_filter;
 

@@ -3,7 +3,7 @@
 ghost use Rattle.std.specs.Prelude.{◌≡◌, false, IfNone, IfSome};
 ghost use Rattle.lra_member_rules.specs.Ruling as spec;
 
-use crate::bodies::is_outside;
+use crate::addresses::is_outside;
 use lra_commands::Refusal;
 use lra_front::{ApiError, Operation, RoutedRequest};
 use lra_ids::Base;
@@ -34,7 +34,7 @@ fn refusal_of(alloc: Global, rules: &Rules, request: &RoutedRequest<'_>) -> Opti
     if rules.is_empty() || !is_join(request) {
         return None;
     }
-    match is_outside(alloc, rules, request.request().body.as_slice()) {
+    match is_outside(alloc, rules, request) {
         Ok(true) => Some(Refusal::BadAddresses),
         Ok(false) => None,
         Err(_) => Some(Refusal::Memory),

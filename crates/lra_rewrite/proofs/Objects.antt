@@ -1,12 +1,12 @@
--- The object of a body, before and after.
-use Rattle.std.proofs.Common.{◌≡◌, suc, ℕ, ◌<◌, ◌≤◌, Bool, true, false, List, [], ◌∷◌, length, Option, Some, None}
-use Rattle.std.proofs.Common.{IfSome, MatchOption, String, Global, BTreeMap, string_bytes, string_cmp, Ordering, Less}
-use Rattle.std.proofs.Common.{Equal, Greater, refl, sym, ap, ◌∙◌, subst, arith}
+-- The object of a value, before and after.
+use Rattle.std.proofs.Common.{◌≡◌, suc, ℕ, ◌≤◌, List, [], ◌∷◌, Option, Some, IfSome, MatchOption, String, Global}
+use Rattle.std.proofs.Common.{BTreeMap, string_bytes, string_cmp, Ordering, Less, Equal, Greater, refl, sym, ap, ◌∙◌}
+use Rattle.std.proofs.Common.{subst, arith}
 use Rattle.std.specs.Prelude.{⊤}
-use Rattle.std.specs.Str.{is_utf8, IsUtf8}
+use Rattle.std.specs.Str.{IsUtf8}
 use Rattle.std.specs.BTreeMap.{insert_entry}
 use Rattle.std.specs.Ordering.{match_ordering}
-use Rattle.std.proofs.lemmas.Str.{IsUtf8-string_bytes, is_utf8-from_IsUtf8, IsUtf8-from_is_utf8}
+use Rattle.std.proofs.lemmas.Str.{IsUtf8-string_bytes, is_utf8-from_IsUtf8}
 use Rattle.serde_json.specs.Data.{Data, Members, no_members, member, object, put, depth, members_depth}
 use Rattle.serde_json.specs.Read.{read, max_depth}
 use Rattle.serde_json.specs.View.{view, members_view}
@@ -15,26 +15,7 @@ use Rattle.serde_json.proofs.OnLiterals.{serde_json_on_literals}
 use Rattle.serde_json.proofs.Views.{view-Object, members_view-insert_entry}
 use Rattle.serde_json.specs.Find.{as_object}
 use Rattle.lra_front.specs.Bodies.{object_in}
-use Rattle.lra_rewrite.specs.inner.Found.{Finds}
-
-pub object_ok : (body : List ℕ) (d : Data) → 0 < length body → IsUtf8 body → read body ≡ Some d → object_in body
-    ≡ as_object d
-object_ok [] d some text e = absurd (omega (arith, some))
-object_ok (b ∷ rest) d some text e = rw (is_utf8-from_IsUtf8 (b ∷ rest) text, e) refl
-
-object_by : (b : ℕ) (rest : List ℕ) (t : Bool) → is_utf8 (b ∷ rest) ≡ t → (IsUtf8 (b ∷ rest) → read (b ∷ rest) ≡ None)
-    → object_in (b ∷ rest) ≡ None
-object_by b rest true e h = rw (e, h (IsUtf8-from_is_utf8 (b ∷ rest) e)) refl
-object_by b rest false e h = rw e refl
-
-pub object_err : (body : List ℕ) → 0 < length body → (IsUtf8 body → read body ≡ None) → object_in body ≡ None
-object_err [] some h = absurd (omega (arith, some))
-object_err (b ∷ rest) some h = object_by b rest (is_utf8 (b ∷ rest)) refl h
-
-pub object_empty : (body : List ℕ) (m : BTreeMap (String Global) Value) → length body ≡ 0 → m.entries ≡ []
-    → Finds body (Some (Object m))
-object_empty [] m e is = rw (view-Object m, is) (refl, omega arith)
-object_empty (b ∷ rest) m e is = absurd (omega (arith, e))
+use Rattle.lra_rewrite.specs.inner.Made.{IsWritten}
 
 -- ---- a text or a number is put into an object
 
@@ -53,30 +34,39 @@ depth-put key d (member l e ms) n flat h =
     (omega (arith, flat, h)) (omega (arith, flat, h))
     (omega (arith, h, depth-put key d ms n flat (omega (arith, h))))
 
-object_none : (ms : Members) → read [] ≡ Some (object ms) → object_in [] ≡ Some ms
+object_none : (d : Data) → read [] ≡ Some d → object_in [] ≡ as_object d
 unfolding serde_json_on_literals
-object_none ms e = absurd (subst (λ (o : Option Data). MatchOption o ⊤ (λ d. ⊥)) e tt)
+object_none d e = absurd (subst (λ (o : Option Data). MatchOption o ⊤ (λ d. ⊥)) e tt)
 
--- the members that were written are read back
-object_read : (body : List ℕ) (ms : Members) → IsUtf8 body → read body ≡ Some (object ms) → object_in body ≡ Some ms
-object_read [] ms text e = object_none ms e
-object_read (b ∷ rest) ms text e = rw (is_utf8-from_IsUtf8 (b ∷ rest) text, e) refl
+-- the value that was written is read back
+object_read : (body : List ℕ) (d : Data) → IsUtf8 body → read body ≡ Some d → object_in body ≡ as_object d
+object_read [] d text e = object_none d e
+object_read (b ∷ rest) d text e = rw (is_utf8-from_IsUtf8 (b ∷ rest) text, e) refl
 
--- the body that is written of an object with one more text or number
-pub body_is : (v : Value) (old new : BTreeMap (String Global) Value) (k body : String Global) (more : Value)
-    (key : List ℕ) → v ≡ Object old → string_bytes k ≡ key
-    → new.entries ≡ insert_entry string_cmp old.entries k more → depth (view v) ≤ max_depth → depth (view more) ≡ 0
-    → (depth (view (Object new)) ≤ max_depth → read (string_bytes body) ≡ Some (view (Object new)))
-    → IfSome (as_object (view v)) (λ ms. object_in (string_bytes body) ≡ Some (put key (view more) ms))
-body_is v old new k body more key is named entries deep flat written =
-    let ms = members_view old.entries in
-    let seen : view v ≡ object ms = ap view is ∙ view-Object old in
-    let made : view (Object new) ≡ object (put key (view more) ms) =
-    view-Object new ∙ ap (λ es. object (members_view es)) entries ∙ ap object
-    (members_view-insert_entry old.entries k more)
-    ∙ ap (λ l. object (put l (view more) ms)) named in
-    let small : suc (members_depth ms) ≤ max_depth = subst (λ d. depth d ≤ max_depth) seen deep in
-    let fits : depth (view (Object new)) ≤ max_depth =
-    subst (λ d. depth d ≤ max_depth) (sym made)
-    (omega (arith, small, depth-put key (view more) ms 126 flat (omega (arith, small)))) in
-    rw seen (object_read (string_bytes body) _ (IsUtf8-string_bytes body) (written fits ∙ ap Some made))
+pub written_is : (text : String Global) (d : Data) → depth d ≤ max_depth
+    → (depth d ≤ max_depth → read (string_bytes text) ≡ Some d) → IsWritten (string_bytes text) d
+written_is text d fits written =
+    (object_read (string_bytes text) d (IsUtf8-string_bytes text) (written fits), fits)
+
+-- an object with one more text or number
+module _ (d : Data) (v : Value) (old new : BTreeMap (String Global) Value) (k : String Global) (more : Value)
+    (key : List ℕ) (seen : view v ≡ d) (is : v ≡ Object old) (named : string_bytes k ≡ key)
+    (entries : new.entries ≡ insert_entry string_cmp old.entries k more) where
+  before : d ≡ object (members_view old.entries)
+  before = sym seen ∙ ap view is ∙ view-Object old
+
+  after : view (Object new) ≡ object (put key (view more) (members_view old.entries))
+  after =
+      view-Object new ∙ ap (λ es. object (members_view es)) entries ∙ ap object
+      (members_view-insert_entry old.entries k more)
+      ∙ ap (λ l. object (put l (view more) (members_view old.entries))) named
+
+  pub put_is : IfSome (as_object d) (λ ms. as_object (view (Object new)) ≡ Some (put key (view more) ms))
+  put_is = rw before (ap as_object after)
+
+  pub fits : depth d ≤ max_depth → depth (view more) ≡ 0 → depth (view (Object new)) ≤ max_depth
+  fits deep flat =
+      let small : suc (members_depth (members_view old.entries)) ≤ max_depth =
+      subst (λ e. depth e ≤ max_depth) before deep in
+      subst (λ e. depth e ≤ max_depth) (sym after)
+      (omega (arith, small, depth-put key (view more) (members_view old.entries) 126 flat (omega (arith, small))))

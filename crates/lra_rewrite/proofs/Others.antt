@@ -1,32 +1,81 @@
 -- What bodies and requests mean.
-use Rattle.std.proofs.Common.{◌≡◌, ℕ, Bool, true, false, true≢false, List, [], ◌∷◌, length, Option, Some, None, IfSome}
-use Rattle.std.proofs.Common.{MatchOption, is_some, option_map, option_and_then, if◌then◌else◌, String, Global}
-use Rattle.std.proofs.Common.{string_bytes, Result, Ok, Err, refl, sym, ap, subst, inl, inr, arith}
-use Rattle.std.specs.Prelude.{◌⊎◌, IsSome, OnSome, is_none, unwrap_or}
-use Rattle.serde_json.specs.Data.{Data, null, boolean, number, string, array, object, Members, put}
+use Rattle.std.proofs.Common.{◌≡◌, ℕ, ◌≤◌, Bool, true, false, true≢false, List, [], ◌∷◌, length, Option, Some, None}
+use Rattle.std.proofs.Common.{IfSome, is_some, option_map, option_and_then, if◌then◌else◌, unwrap_or, Result, Ok, Err}
+use Rattle.std.proofs.Common.{refl, sym, ap, subst, ◌∙◌, arith}
+use Rattle.std.specs.Prelude.{IsSome}
+use Rattle.serde_json.specs.Data.{Data, null, boolean, number, string, array, object, depth, Members, put}
 use Rattle.serde_json.specs.Find.{get, as_str, as_object}
-use Rattle.lra_wire.specs.Request.{Request}
+use Rattle.serde_json.specs.Read.{max_depth}
+use Rattle.serde_json.specs.View.{view}
+use Rattle.lra_wire.specs.Request.{Request, request_of}
 use Rattle.lra_front.specs.declared.operation.Operation.{Operation}
+use Rattle.lra_front.specs.declared.operation.Operation.TheVariants as operation
 use Rattle.lra_front.specs.declared.api_error.ApiError.{ApiError}
+use Rattle.lra_front.specs.ApiRequests.{LacksMemory}
 use Rattle.lra_front.specs.Routes.{operation_of}
-use Rattle.lra_front.specs.Bodies.{identifier_key, object_in, text_under}
+use Rattle.lra_front.specs.Bodies.{identifier_key, reads_body, object_in, text_under, IsValueOf}
 use Rattle.lra_rewrite.specs.Paths.{served_behind, other_target}
 use Rattle.lra_rewrite.specs.Texts.{other_text}
 use Rattle.lra_rewrite.specs.Bodies.{other_members, other_at, other_body, IsRead}
-use Rattle.lra_rewrite.specs.Requests.{MeansParts, Means, LacksMemory}
-use Rattle.lra_rewrite.specs.inner.Found.{IsOther}
-use Rattle.lra_rewrite.specs.inner.Made.{with_others}
+use Rattle.lra_rewrite.specs.Requests.{MeansParts, Means}
+use Rattle.lra_rewrite.specs.declared.requests.Meant.{Meant}
+use Rattle.lra_rewrite.specs.inner.Made.{IsMade, IsWritten, MeansOther, moved}
+
+-- ---- the value of a body that is read
+
+pub value_read : (own : Request) (d : Data) → LacksMemory own
+    → IsValueOf (operation_of own.method own.target) own.body (Some d)
+    → (object_in own.body ≡ as_object d) × (depth d ≤ max_depth)
+value_read own d (r, e, reads) h =
+    let held : IsValueOf (Ok r) own.body (Some d) = subst (λ f. IsValueOf f own.body (Some d)) e h in
+    (rw reads at held.0, held.1)
+
+pub none_read : (own : Request) → LacksMemory own → IsValueOf (operation_of own.method own.target) own.body None
+    → object_in own.body ≡ None
+none_read own (r, e, reads) h =
+    let held : IsValueOf (Ok r) own.body None = subst (λ f. IsValueOf f own.body None) e h in
+    rw reads at held
+
+-- the value of a body that was written
+pub value_written : (own : Request) (body : List ℕ) (d : Data) → LacksMemory own → IsWritten body d
+    → IsValueOf (operation_of own.method own.target) body (Some d)
+value_written own body d (r, e, reads) h =
+    let held : IsValueOf (Ok r) body (Some d) = (rw reads h.0, h.1) in
+    subst (λ f. IsValueOf f body (Some d)) (sym e) held
+
+-- an operation with an identifier in its body reads it
+pub key_reads : (r : Operation) → IsSome (identifier_key r) → reads_body r ≡ true
+key_reads operation.Start some = refl
+key_reads operation.Remove some = refl
+key_reads operation.Status some = absurd (true≢false (sym some))
+key_reads operation.Join some = refl
+key_reads operation.Close some = refl
+key_reads operation.Cancel some = refl
+key_reads operation.Renew some = refl
+key_reads operation.MemberStatus some = absurd (true≢false (sym some))
+key_reads operation.Report some = refl
 
 -- ---- bodies that mean themselves
 
+-- a request without another target and body
+pub itself : (own : Request) (members : Option Members) → members ≡ None → MeansParts own.target members own own
+itself own members e = rw e (record {
+  method = refl;
+  target = refl;
+  minor = refl;
+  close = refl;
+  fields = refl;
+  body = refl;
+})
+
 pub empty_other : (base : List ℕ) (olders : List (List ℕ)) (key body : List ℕ) → length body ≡ 0
-    → IsOther (other_at base olders key body) None
+    → other_at base olders key body ≡ None
 unfolding other_at
 empty_other base olders key [] e = refl
 empty_other base olders key (b ∷ rest) e = absurd (omega (arith, e))
 
 pub unread_other : (base : List ℕ) (olders : List (List ℕ)) (key body : List ℕ) → object_in body ≡ None
-    → IsOther (other_at base olders key body) None
+    → other_at base olders key body ≡ None
 unfolding other_at
 unread_other base olders key body e = rw e refl
 
@@ -58,8 +107,8 @@ no_body base (Err d) body = refl
 
 -- there is no older base
 pub none_older : (base : List ℕ) (olders : List (List ℕ)) (asked : Result Operation ApiError) (body : List ℕ)
-    → length olders ≡ 0 → IsOther (other_body base olders asked body) None
-none_older base [] asked body e = rw (no_body base asked body) refl
+    → length olders ≡ 0 → other_body base olders asked body ≡ None
+none_older base [] asked body e = no_body base asked body
 none_older base (o ∷ olders) asked body e = absurd (omega (arith, e))
 
 -- ---- bodies whose value is known
@@ -76,76 +125,102 @@ found_none base olders key (object ms) e = ap (option_map (λ text. put key (str
 
 pub other_none : (base : List ℕ) (olders : List (List ℕ)) (key body : List ℕ) (d : Data) → object_in body ≡ as_object d
     → None ≡ option_and_then (other_text base olders) (option_and_then as_str (get key d))
-    → IsOther (other_at base olders key body) None
+    → other_at base olders key body ≡ None
 unfolding other_at
-other_none base olders key body d is e = rw (is, found_none base olders key d e) refl
+other_none base olders key body d is e = rw is (found_none base olders key d e)
 
 found_some : (base : List ℕ) (olders : List (List ℕ)) (key : List ℕ) (d more : Data) (text : List ℕ)
-    (other : String Global) → more ≡ string text
+    (P : Option Members → Type 0) → more ≡ string text
     → Some text ≡ option_and_then (other_text base olders) (option_and_then as_str (get key d))
-    → IfSome (as_object d) (λ ms. object_in (string_bytes other) ≡ Some (put key more ms))
-    → IsOther (option_and_then (other_members base olders key) (as_object d)) (Some other)
-found_some base olders key null more text other is e h = absurd (true≢false (ap is_some e))
-found_some base olders key (boolean b) more text other is e h = absurd (true≢false (ap is_some e))
-found_some base olders key (number n) more text other is e h = absurd (true≢false (ap is_some e))
-found_some base olders key (string s) more text other is e h = absurd (true≢false (ap is_some e))
-found_some base olders key (array ds) more text other is e h = absurd (true≢false (ap is_some e))
-found_some base olders key (object ms) more text other is e h = rw (← e, ← is) h
+    → IfSome (as_object d) (λ ms. P (Some (put key more ms)))
+    → P (option_and_then (other_members base olders key) (as_object d))
+found_some base olders key null more text P is e h = absurd (true≢false (ap is_some e))
+found_some base olders key (boolean b) more text P is e h = absurd (true≢false (ap is_some e))
+found_some base olders key (number n) more text P is e h = absurd (true≢false (ap is_some e))
+found_some base olders key (string s) more text P is e h = absurd (true≢false (ap is_some e))
+found_some base olders key (array ds) more text P is e h = absurd (true≢false (ap is_some e))
+found_some base olders key (object ms) more text P is e h = rw (← e, ← is) h
 
 pub other_some : (base : List ℕ) (olders : List (List ℕ)) (key body : List ℕ) (d more : Data) (text : List ℕ)
-    (other : String Global) → object_in body ≡ as_object d → more ≡ string text
+    (P : Option Members → Type 0) → object_in body ≡ as_object d → more ≡ string text
     → Some text ≡ option_and_then (other_text base olders) (option_and_then as_str (get key d))
-    → IfSome (as_object d) (λ ms. object_in (string_bytes other) ≡ Some (put key more ms))
-    → IsOther (other_at base olders key body) (Some other)
+    → IfSome (as_object d) (λ ms. P (Some (put key more ms))) → P (other_at base olders key body)
 unfolding other_at
-other_some base olders key body d more text other is goes e h =
-    rw is (found_some base olders key d more text other goes e h)
+other_some base olders key body d more text P is goes e h =
+    rw is (found_some base olders key d more text P goes e h)
 
 -- ---- requests
 
-body_meant : (members : Option Members) (other : Option (String Global)) (own : List ℕ) → IsOther members other
-    → MatchOption members (unwrap_or (option_map string_bytes other) own ≡ own)
-    (λ ms. object_in (unwrap_or (option_map string_bytes other) own) ≡ Some ms)
-body_meant None None own h = refl
-body_meant None (Some body) own h = absurd (true≢false (ap is_some h))
-body_meant (Some ms) None own h = absurd h
-body_meant (Some ms) (Some body) own h = h
+-- a copy of a request with the body that was written
+pub parts : (own made : Request) (body : List ℕ) (d : Data) (o : Option Members) (f : Members → Members)
+    → made ≡ record own { body = body } → IsWritten body d → IfSome o (λ ms. as_object d ≡ Some (f ms))
+    → IfSome o (λ ms. MeansParts own.target (Some (f ms)) own made)
+parts own made body d None f is written h = tt
+parts own made body d (Some ms) f is written h =
+    subst (λ (r : Request). MeansParts own.target (Some (f ms)) own r) (sym is) (record {
+      method = refl;
+      target = refl;
+      minor = refl;
+      close = refl;
+      fields = refl;
+      body = written.0 ∙ h;
+    })
 
--- a request with another target and another body, as far as these are given
-pub made : (own : Request) (target : Option (List ℕ)) (members : Option Members) (body : Option (String Global))
-    → IsOther members body
-    → MeansParts (unwrap_or target own.target) members own (with_others own target (option_map string_bytes body))
-made own target members body other = record {
-  method = refl;
-  target = refl;
-  minor = refl;
-  close = refl;
-  fields = refl;
-  body = body_meant members body own.body other;
+pub made_is : (own : Request) (other : Meant) (body : List ℕ) → LacksMemory own
+    → request_of other.request ≡ record own { body = body } → IsWritten body (view other.value) → IsMade own other
+made_is own other body reads is written = record {
+  method = ap (λ (r : Request). r.method) is;
+  target = ap (λ (r : Request). r.target) is;
+  value =
+      subst (λ (r : Request). IsValueOf (operation_of own.method own.target) r.body (Some (view other.value))) (sym is)
+      (value_written own body (view other.value) reads written);
 }
 
--- a request with the target and the body that its own mean
-pub means : (base : List ℕ) (olders : List (List ℕ)) (own : Request) (target body : Option (String Global))
-    → option_map string_bytes target ≡ other_target base own.target
-    → IsOther (other_body base olders (operation_of own.method (unwrap_or (option_map string_bytes target) own.target))
-    own.body) body
-    → Means base olders own (with_others own (option_map string_bytes target) (option_map string_bytes body))
-means base olders own target body is other =
-    subst (λ t. MeansParts (unwrap_or t own.target)
-    (other_body base olders (operation_of own.method (unwrap_or t own.target)) own.body) own
-    (with_others own (option_map string_bytes target) (option_map string_bytes body))) is
-    (made own (option_map string_bytes target) _ body other)
+same_some : (x y : Request) → Some x ≡ Some y → x ≡ y
+same_some x y e = ap (λ (o : Option Request). unwrap_or o x) e
 
--- making the meant request takes memory if its target or its body is another
-pub lacks : (base : List ℕ) (olders : List (List ℕ)) (own : Request) (target body : Option (String Global))
-    (asked : Result Operation ApiError) (bytes : List ℕ)
-    → option_map string_bytes target ≡ other_target base own.target → asked
-    ≡ operation_of own.method (unwrap_or (option_map string_bytes target) own.target) → bytes ≡ own.body
-    → OnSome body (IsRead olders asked bytes) → (is_none target ≡ false) ⊎ (is_none body ≡ false)
-    → LacksMemory base olders own
-lacks base olders own (Some text) body asked bytes is asks has read other = inl (subst IsSome is refl)
-lacks base olders own None (Some text) asked bytes is asks has read other =
-    inr (subst (λ t. IsRead olders (operation_of own.method (unwrap_or t own.target)) own.body) is
-    (subst (λ r. IsRead olders r own.body) asks (subst (IsRead olders asked) has read)))
-lacks base olders own None None asked bytes is asks has read (inl e) = absurd (true≢false e)
-lacks base olders own None None asked bytes is asks has read (inr e) = absurd (true≢false e)
+meant_at : (base : List ℕ) (olders : List (List ℕ)) (own other meant : Request) (o : Option (List ℕ))
+    → Some other ≡ option_map (λ target. record own { target = target }) o → MeansOther base olders other meant
+    → MeansParts (unwrap_or o own.target)
+    (other_body base olders (operation_of own.method (unwrap_or o own.target)) own.body) own meant
+meant_at base olders own other meant None e h = absurd (true≢false (ap is_some e))
+meant_at base olders own other meant (Some target) e h =
+    let k : MeansOther base olders (record own { target = target }) meant =
+    subst (λ (r : Request). MeansOther base olders r meant) (same_some _ _ e) h in
+    record {
+      method = k.method;
+      target = k.target;
+      minor = k.minor;
+      close = k.close;
+      fields = k.fields;
+      body = k.body;
+    }
+
+-- what the request with another target means, a request with its own target means
+pub meant_moved : (base : List ℕ) (olders : List (List ℕ)) (own other meant : Request) → Some other ≡ moved base own
+    → MeansOther base olders other meant → Means base olders own meant
+meant_moved base olders own other meant e h = meant_at base olders own other meant (other_target base own.target) e h
+
+pub has_moved : (base : List ℕ) (own other : Request) → Some other ≡ moved base own
+    → IsSome (other_target base own.target)
+has_moved base own other e = by (other_target base own.target) e
+  where
+    by : (o : Option (List ℕ)) → Some other ≡ option_map (λ target. record own { target = target }) o → IsSome o
+    by None e = absurd (true≢false (ap is_some e))
+    by (Some target) e = refl
+
+none_moved : (base : List ℕ) (own : Request) → None ≡ moved base own → other_target base own.target ≡ None
+none_moved base own e = by (other_target base own.target) e
+  where
+    by : (o : Option (List ℕ)) → None ≡ option_map (λ target. record own { target = target }) o → o ≡ None
+    by None e = refl
+    by (Some target) e = absurd (true≢false (sym (ap is_some e)))
+
+pub meant_unmoved : (base : List ℕ) (olders : List (List ℕ)) (own meant : Request) → None ≡ moved base own
+    → MeansOther base olders own meant → Means base olders own meant
+meant_unmoved base olders own meant e h = rw (none_moved base own e) h
+
+pub lacks_unmoved : (base : List ℕ) (olders : List (List ℕ)) (own : Request) → None ≡ moved base own
+    → IsRead olders (operation_of own.method own.target) own.body
+    → IsRead olders (operation_of own.method (unwrap_or (other_target base own.target) own.target)) own.body
+lacks_unmoved base olders own e h = rw (none_moved base own e) h

@@ -4,7 +4,6 @@
 
 mod asked;
 mod bodies;
-mod bytes;
 mod default_limit_filter;
 mod laws;
 mod limits;

@@ -1,71 +1,110 @@
 //! The request that a request means.
 
-ghost use Rattle.std.specs.Prelude.{◌≡◌, option_map, unwrap_or, string_bytes, IfOk, OnErr};
+ghost use Rattle.std.specs.Prelude.{◌≡◌, ◌≤◌, option_map, string_bytes, IfOk, IfSome, IsSome, OnErr, Some};
+ghost use Rattle.serde_json.specs.Data.{depth, put};
+ghost use Rattle.serde_json.specs.Find.{as_object};
+ghost use Rattle.serde_json.specs.Read.{max_depth};
+ghost use Rattle.serde_json.specs.View.{view};
 ghost use Rattle.lra_wire.specs.Request.{request_of};
+ghost use Rattle.lra_front.specs.ApiRequests.{LacksMemory};
+ghost use Rattle.lra_rewrite.specs.Paths as paths;
 ghost use Rattle.lra_rewrite.specs.Requests as spec;
-ghost use Rattle.lra_rewrite.specs.inner.Made.{with_others, meant_by};
+ghost use Rattle.lra_rewrite.specs.inner.Made.{IsMade, moved};
 
-use crate::bodies::other_body;
-use crate::bytes::{bytes_or, text_or};
 use crate::paths::other_target;
 use lra_front::RoutedRequest;
 use lra_ids::Base;
 use lra_model::Memory;
 use lra_wire::RequestRead;
+use serde_json::Value;
 use std::alloc::Global;
 
-/// Returns another text, or the request's own if there is none.
-fn text_of<'t>(other: &'t Option<String>, own: &'t str) -> &'t str
-    ensures { result.now ≡ unwrap_or (option_map string_bytes other.now) own.now }
-{
-    match other {
-        Some(text) => text.as_str(),
-        None => own,
-    }
+/// Request that another means, and the value that its body was written of.
+#[derive(Drop)]
+pub(crate) struct Meant {
+    pub request: RequestRead,
+    pub value: Value,
 }
 
-/// Returns a copy of a request, with another target and another body as far as these are given.
-pub(crate) fn with_parts(
-    alloc: Global,
-    request: &RequestRead,
-    target: Option<String>,
-    body: Option<String>,
-) -> Result<RequestRead, Memory>
-    ensures { IfOk result (λ made. request_of made ≡ with_others (request_of request.now)
-        (option_map string_bytes target) (option_map string_bytes body)) }
+/// Returns a copy of a request with another target.
+fn with_target(alloc: Global, request: &RequestRead, target: String) -> Result<RequestRead, Memory>
+    ensures { IfOk result (λ made. request_of made ≡ record (request_of request.now) { target = string_bytes target }) }
 {
     Ok(RequestRead {
         method: String::from_str(alloc, request.method.as_str())?,
-        target: text_or(alloc, target, request.target.as_str())?,
+        target,
         minor: request.minor,
         close: request.close,
-        body: bytes_or(alloc, body, request.body.as_slice())?,
+        body: Vec::from_slice(alloc, request.body.as_slice())?,
         fields: request.fields.copy(alloc)?,
     })
 }
 
-/// Returns the request that a request means, if that isn't itself. If it is, nothing is copied.
-pub(crate) fn other_request(
+/// Returns a copy of a request with another body.
+fn with_body(alloc: Global, request: &RequestRead, body: String) -> Result<RequestRead, Memory>
+    ensures { IfOk result (λ made. request_of made ≡ record (request_of request.now) { body = string_bytes body }) }
+{
+    Ok(RequestRead {
+        method: String::from_str(alloc, request.method.as_str())?,
+        target: String::from_str(alloc, request.target.as_str())?,
+        minor: request.minor,
+        close: request.close,
+        body: body.into_bytes(),
+        fields: request.fields.copy(alloc)?,
+    })
+}
+
+/// Returns the request with the target that the target of a request means, if that is another.
+pub(crate) fn moved_request(
     alloc: Global,
     base: &Base,
-    olders: &[Base],
-    routed: &RoutedRequest<'_>,
+    request: &RequestRead,
 ) -> Result<Option<RequestRead>, Memory>
-    ensures ok { IfOk result (λ other. spec.Means base.now olders.now routed.now (meant_by routed.now other)) }
-    ensures err { OnErr result (spec.LacksMemory base.now olders.now routed.now) }
+    ensures ok { IfOk result (λ other. option_map request_of other ≡ moved base.now (request_of request.now)) }
+    ensures err { OnErr result (IsSome (paths.other_target base.now (request_of request.now).target)) }
 {
-    let request = routed.request();
-    let target = other_target(alloc, base.as_str(), request.target.as_str())?;
-    let operation = routed.operation_at(text_of(&target, request.target.as_str()));
-    let body = other_body(
-        alloc,
-        base.as_str(),
-        olders,
-        operation,
-        request.body.as_slice(),
-    )?;
-    if target.is_none() && body.is_none() {
-        return Ok(None);
+    match other_target(alloc, base.as_str(), request.target.as_str())? {
+        Some(target) => Ok(Some(with_target(alloc, request, target)?)),
+        None => Ok(None),
     }
-    Ok(Some(with_parts(alloc, request, target, body)?))
+}
+
+/// Copies a value, and puts a text or a number under a key of the copy if it is an object.
+fn value_with(alloc: Global, value: &Value, key: &str, member: Value) -> Result<Value, Memory>
+    requires nests { depth (view value.now) ≤ max_depth }
+    requires flat { depth (view member) ≡ 0 }
+    ensures put { IfOk result (λ made. IfSome (as_object (view value.now)) (λ ms. as_object (view made)
+        ≡ Some (put key.now (view member) ms))) }
+    ensures nests { IfOk result (λ made. depth (view made) ≤ max_depth) }
+{
+    let copied = value.clone()?;
+    match copied {
+        Value::Object(members) => {
+            let mut members = members;
+            members.insert(String::from_str(alloc, key)?, member)?;
+            Ok(Value::Object(members))
+        }
+        other => Ok(other),
+    }
+}
+
+/// Returns the request with a text or a number put under a key of its body, of which this is the value.
+pub(crate) fn meant_with(
+    alloc: Global,
+    own: &RoutedRequest<'_>,
+    body: &Value,
+    key: &str,
+    member: Value,
+) -> Result<Meant, Memory>
+    requires reads { LacksMemory own.now }
+    requires nests { depth (view body.now) ≤ max_depth }
+    requires flat { depth (view member) ≡ 0 }
+    ensures ok { IfOk result (λ meant. IfSome (as_object (view body.now)) (λ ms.
+        spec.MeansParts own.now.target (Some (put key.now (view member) ms)) own.now (request_of meant.request))) }
+    ensures made { IfOk result (IsMade own.now) }
+{
+    let value = value_with(alloc, body, key, member)?;
+    let text = value.to_string(alloc)?;
+    let request = with_body(alloc, own.request(), text)?;
+    Ok(Meant { request, value })
 }

@@ -1,13 +1,22 @@
 //! A filter that passes to a handler what each request means.
 
-ghost use Rattle.std.specs.Prelude.{◌≡◌};
+ghost use Rattle.std.specs.Prelude.{◌≡◌, option_map, IfOk, IsSome, OnErr};
+ghost use Rattle.lra_wire.specs.Request.{request_of};
+ghost use Rattle.lra_front.specs.Replies.{HasIdentifiers};
+ghost use Rattle.lra_rewrite.specs.Paths.{other_target};
+ghost use Rattle.lra_rewrite.specs.inner.Asks.{AsksMoved, AsksOther};
+ghost use Rattle.lra_rewrite.specs.inner.Made.{moved as spec_moved};
 
 use crate::asked::ask;
+use crate::bodies::other_request;
 use crate::paths::is_outside;
-use crate::requests::other_request;
+use crate::requests::moved_request;
+use lra_commands::Refusal;
 use lra_front::{ApiError, RoutedRequest};
 use lra_ids::{Base, Instance};
+use lra_model::Memory;
 use lra_steps::{Answered, Handler};
+use lra_wire::RequestRead;
 use std::alloc::Global;
 
 /// Filter that passes to a handler what each request means: behind a proxy that passes the path of the base on, and by
@@ -49,6 +58,50 @@ impl<A: Handler> RewriteFilter<A> {
     }
 }
 
+impl<A: Handler> RewriteFilter<A> {
+    /// Calls the handler with what a request means by the identifier in its body.
+    fn ask_other(&mut self, alloc: Global, moment: u64, request: &RoutedRequest<'_>) -> Answered
+        ensures asks { AsksOther A.base_of A.responds (A.sight self.old.inner) self.old.olders.items moment request.now
+            result (A.sight self.new.inner) }
+        ensures olders { self.new.olders ≡ self.old.olders }
+        ensures is_strict { self.new.is_strict ≡ self.old.is_strict }
+        ensures identifiers { HasIdentifiers result.answer }
+    {
+        let base = self.inner.base().as_str();
+        let meant = other_request(alloc, base, self.olders.as_slice(), request);
+        ask(&mut self.inner, alloc, moment, request, meant)
+    }
+
+    /// Calls the handler with what a request means: by its target, for which this is the request if that is another,
+    /// and then by the identifier in its body.
+    fn ask_moved(
+        &mut self,
+        alloc: Global,
+        moment: u64,
+        request: &RoutedRequest<'_>,
+        moved: Result<Option<RequestRead>, Memory>,
+    ) -> Answered
+        requires ok { IfOk moved (λ other. option_map request_of other
+            ≡ spec_moved (A.base_of (A.sight self.old.inner)) request.now) }
+        requires err { OnErr moved (IsSome (other_target (A.base_of (A.sight self.old.inner)) request.now.target)) }
+        ensures asks { AsksMoved A.base_of A.responds (A.sight self.old.inner) self.old.olders.items moment request.now
+            result (A.sight self.new.inner) }
+        ensures olders { self.new.olders ≡ self.old.olders }
+        ensures is_strict { self.new.is_strict ≡ self.old.is_strict }
+        ensures identifiers { HasIdentifiers result.answer }
+    {
+        match moved {
+            Ok(Some(other)) => {
+                let answered = self.ask_other(alloc, moment, &request.with(alloc, &other));
+                drop(other);
+                answered
+            }
+            Ok(None) => self.ask_other(alloc, moment, request),
+            Err(_) => Answered::denied(self.inner.instance(), ApiError::Refused(Refusal::Memory)),
+        }
+    }
+}
+
 impl<A: Handler> Handler for RewriteFilter<A> {
     ghost use Rattle.lra_rewrite.specs.Serving.{Served, Responds, Rests};
     ghost use Rattle.lra_rewrite.specs.inner.Stays.{base_stays};
@@ -76,8 +129,9 @@ impl<A: Handler> Handler for RewriteFilter<A> {
         if self.is_strict && is_outside(base.as_str(), request.request().target.as_str()) {
             return Answered::denied(self.inner.instance(), ApiError::NoSuchPath);
         }
-        let meant = other_request(alloc, base, self.olders.as_slice(), request);
-        ask(&mut self.inner, alloc, moment, request, meant)
+        let own = request.request();
+        let moved = moved_request(alloc, base, own);
+        self.ask_moved(alloc, moment, request, moved)
     }
 
     fn on_idle(&mut self) {

@@ -15,7 +15,7 @@ use lra_model::Memory;
 use lra_wire::RequestRead;
 use std::alloc::Global;
 
-/// Answers a request at a moment. The router is asked here which operation the request asks for.
+/// Answers a request at a moment. The router is asked here which operation the request asks for, and its body is read.
 fn respond<A: Handler>(
     alloc: Global,
     routes: &Routes,
@@ -26,7 +26,10 @@ fn respond<A: Handler>(
     ensures responds { A.responds (A.sight handler.old) moment (request_of request.now) result (A.sight handler.new) }
     ensures identifiers { HasIdentifiers result.answer }
 {
-    handler.respond(alloc, moment, &RoutedRequest::new(routes, request))
+    let routed = RoutedRequest::new(alloc, routes, request);
+    let answered = handler.respond(alloc, moment, &routed);
+    drop(routed);
+    answered
 }
 
 /// Answers the request that stands, at the moment that the clock returns. Returns the answer. Where memory for the

@@ -94,7 +94,7 @@ fn answered(
     journal_set: &mut JournalSet<Counting>,
     request: &RequestRead,
 ) -> Answered {
-    respond(alloc, journal_set, 5, &RoutedRequest::new(routes, request))
+    respond(alloc, journal_set, 5, &RoutedRequest::new(alloc, routes, request))
 }
 
 /// Returns whether the members were given as many orders as two digits say.

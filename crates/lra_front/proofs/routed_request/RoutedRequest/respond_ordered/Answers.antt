@@ -1,15 +1,9 @@
-use Rattle.std.proofs.Common.{sym, ap, subst, ◌∙◌}
-use Rattle.lra_wire.specs.Request.{Request}
-use Rattle.lra_front.specs.Routes.{operation_of}
-use Rattle.lra_front.specs.Serving.{Orders}
+use Rattle.lra_front.proofs.TimedRequest.{answerable}
 use Rattle.lra_front.proofs.routed_request.RoutedRequest.respond_ordered.Goals as goal
 
-pub respond_for-requires : goal.respond_for-requires
-respond_for-requires g c =
-    c.operation.ensures ∙ ap (λ (r : Request). operation_of r.method r.target) (sym c.request.ensures)
-
-pub returns-clause-orders : goal.returns-clause-orders
-returns-clause-orders g c =
-    subst (λ (r : Request). Orders g.C.Counter.gives (g.C.Counter.sight c.args.counter.now) c.args.moment r
-    (g.C.Counter.sight c.respond_for.new.counter) c.respond_for.result.0 c.respond_for.result.1) c.request.ensures
-    c.respond_for.ensures.orders
+pub answer-requires : goal.answer-requires
+answer-requires g c =
+    answerable (g.C.Counter.sight c.args.counter.now) (g.C.Counter.sight c.give-reply.new.self) c.args.moment
+    c.args.self.now c.order.result c.in-Ok.api_request c.give-reply.result
+    (rw (← c.instance.ensures, ← c.base.ensures) c.in-Ok.ensures) c.order.ensures
+    (g.met.C.Counter.keeps _ _ _ _ _ c.give-reply.ensures)

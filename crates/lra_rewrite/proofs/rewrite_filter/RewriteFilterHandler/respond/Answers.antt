@@ -1,19 +1,25 @@
-use Rattle.std.proofs.Common.{rules, refl, inr}
-use Rattle.lra_wire.specs.Request.{Request}
-use Rattle.lra_rewrite.specs.Requests.{Means, LacksMemory}
-use Rattle.lra_rewrite.proofs.Asking.{asked}
+use Rattle.std.proofs.Common.{◌≡◌, rules, ap, inr, subst, option_map}
+use Rattle.std.specs.Prelude.{IfOk, IsSome, OnErr}
+use Rattle.lra_wire.specs.Request.{Request, request_of}
+use Rattle.lra_rewrite.specs.Paths.{other_target}
+use Rattle.lra_rewrite.specs.inner.Made.{moved}
 use Rattle.lra_rewrite.proofs.rewrite_filter.RewriteFilterHandler.respond.Goals as goal
 
+pub ask_moved-requires-clause-ok : goal.ask_moved-requires-clause-ok
+ask_moved-requires-clause-ok g c =
+    subst (λ (own : Request). IfOk c.moved_request-moved.result (λ other. option_map request_of other
+    ≡ moved (g.A.Handler.base_of (g.A.Handler.sight c.args.self.now.inner)) own)) c.request-own.ensures
+    (rw c.base-base.ensures at c.moved_request-moved.ensures.ok)
+
+pub ask_moved-requires-clause-err : goal.ask_moved-requires-clause-err
+ask_moved-requires-clause-err g c =
+    subst (λ (own : Request). OnErr c.moved_request-moved.result
+    (IsSome (other_target (g.A.Handler.base_of (g.A.Handler.sight c.args.self.now.inner)) own.target)))
+    c.request-own.ensures (rw c.base-base.ensures at c.moved_request-moved.ensures.err)
+
 pub returns-clause-responds : goal.returns-clause-responds
-returns-clause-responds g c =
-    let own : Request = c.args.request.now in
-    let told =
-    asked g.A.Handler.responds (Means c.base-base.result.now c.as_slice.result.now own)
-    (LacksMemory c.base-base.result.now c.as_slice.result.now own) (g.A.Handler.sight c.args.self.now.inner)
-    c.args.moment c.args.request.now c.other_request-meant.result c.ask.result (g.A.Handler.sight c.ask.new.inner)
-    c.other_request-meant.ensures.ok c.other_request-meant.ensures.err c.ask.ensures.asks in
-    record {
-      olders = refl;
-      is_strict = refl;
-      inner = inr (search rules, rw (c.base-base.ensures, c.as_slice.ensures.value) at told);
-    }
+returns-clause-responds g c = record {
+  olders = ap (λ olders. olders.items) c.ask_moved.ensures.olders;
+  is_strict = c.ask_moved.ensures.is_strict;
+  inner = inr (search rules, c.ask_moved.ensures.asks);
+}
