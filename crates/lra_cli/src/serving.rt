@@ -2,12 +2,13 @@
 
 use crate::access_configuration::{AccessConfiguration, access_configuration_of, copy_base, wrong};
 use crate::nowhere::warn_of_nowhere;
-use crate::reasons::{FaultLog, Unlogged, fail, log_unsound, report_misuse};
+use crate::reasons::{FaultLog, Unlogged, fail, log_unsound};
 use crate::rolling::{check_rolling, serve_rolling};
 use lra_admission::KeyFiles;
 use lra_audits::{RunFault, error_line, put, settle};
 use lra_folders::is_folder;
 use lra_ids::Base;
+use lra_inspect::{report_misuse, standard_input};
 use lra_logs::{Format, LevelFilter, Logbook, has_priorities, level_named};
 use lra_opening::NamedFile;
 use lra_operators_server::{OperatorsServer, PortFault, port_line, read_key};
@@ -57,16 +58,6 @@ pub(crate) fn have_options(words: &[String]) -> bool {
         }
         [] => false,
     }
-}
-
-/// Returns standard input, for a thread of its own. The type that reads a child's output reads any descriptor.
-pub(crate) fn standard_input<R: Input>(rt: &R) -> io::Result<ChildStdout>
-where
-    R::Reader: AsFd,
-{
-    let reader = rt.reader();
-    let input = reader.as_fd().try_clone_to_owned()?;
-    Ok(ChildStdout::from(input))
 }
 
 /// Reports on standard error how to salvage a journal that isn't served.

@@ -1,13 +1,9 @@
-//! Help, listings, and following of journals.
+//! Listings of actions, of a journal or of each of a folder's.
 
-use crate::asking::{Asking, ListOptions};
-use crate::explaining::answer_explain;
-use crate::serving::standard_input;
-use crate::texts::HELP;
+use crate::asking::ListOptions;
 use lra_audits::{RunFault, put, settle, tell};
 use lra_clocks::milliseconds;
 use lra_folders::{Found, find, is_folder, open_each, tell_others, width};
-use lra_follow::{FollowedJournals, Stop, follow, pause, watch_input};
 use lra_model::Memory;
 use lra_reports::{Sources, System};
 use lra_timelines::{Choice, list_run};
@@ -15,18 +11,10 @@ use std::alloc::Global;
 use std::fs::File;
 use std::io::Read;
 use std::marker::Sync;
-use std::os::fd::AsFd;
 use std::rt::Files;
-use std::sync::{Arc, Wait};
 use std::thread::Threads;
 use std::time::Clock;
 use std::{io, thread};
-
-/// Prints the calls of the program, and returns its status.
-pub(crate) fn answer_help<R: AllocGlobal + Print + Eprint>(rt: &R) -> u8 {
-    let outcome = put(&mut io::writer(rt), HELP.as_bytes());
-    settle(rt, outcome.map(|_| 0), "-")
-}
 
 /// Returns the choice of the actions that are listed. Returns nothing if the moment now is asked for and the clock
 /// fails.
@@ -158,7 +146,7 @@ fn list_found<R: AllocGlobal + Files<File = File> + Threads + Input + Print + Ep
 }
 
 /// Lists actions, and returns the program's status.
-fn answer_list<
+pub(crate) fn answer_list<
     R: AllocGlobal
         + Files<File = File>
         + Clock
@@ -181,109 +169,4 @@ fn answer_list<
         Err(fault) => Err(fault),
     };
     settle(rt, outcome, place)
-}
-
-/// Begins to watch standard input, whose end stops the run, if that is configured.
-fn watch_end<R: Threads + Input>(
-    rt: &R,
-    stop: &Arc<Stop>,
-    stop_at_eof: bool,
-) -> Result<(), RunFault>
-where
-    R::Reader: AsFd,
-{
-    if !stop_at_eof {
-        return Ok(());
-    }
-    match standard_input(rt) {
-        Ok(input) => watch_input(rt, stop, input),
-        Err(_) => Err(RunFault::Read),
-    }
-}
-
-/// Follows the journals of a folder, until a line of one is at fault, one is missing or can't be read, or a stop is
-/// requested.
-fn follow_found<R: AllocGlobal + Files<File = File> + Clock + Wait + Print + Eprint + Clone + Drop>(
-    rt: &R,
-    folder: &str,
-    stop: &Arc<Stop>,
-) -> Result<u8, RunFault> {
-    tell_others(rt, folder, &find(rt, folder)?.others);
-    let mut journals = FollowedJournals::new(rt.alloc(), folder);
-    for _ in rt.forever() {
-        let is_last = stop.is_asked();
-        let found = find(rt, folder)?;
-        let ended = journals.poll(rt, &found.journals, is_last, &mut io::writer(rt))?;
-        if let Some(status) = ended {
-            return Ok(status);
-        }
-        if is_last {
-            return Ok(0);
-        }
-        pause(rt);
-    }
-    Ok(0)
-}
-
-/// Follows a journal or those of a folder, and returns the program's status.
-fn follow_place<R: AllocGlobal + Files<File = File> + Clock + Wait + Print + Eprint + Clone + Drop>(
-    rt: &R,
-    place: &str,
-    stop: &Arc<Stop>,
-) -> u8 {
-    if is_folder(rt, place) {
-        settle(rt, follow_found(rt, place, stop), place)
-    } else {
-        follow(rt, place, stop)
-    }
-}
-
-/// Follows a journal or those of a folder, and returns the program's status. Stops at the end of standard input, if
-/// that is configured.
-fn answer_follow<
-    R: AllocGlobal
-        + Files<File = File>
-        + Clock
-        + Threads
-        + Wait
-        + Input
-        + Print
-        + Eprint
-        + Clone
-        + Drop,
->(rt: &R, place: &str, stop_at_eof: bool) -> u8
-where
-    R::Reader: AsFd,
-{
-    let Ok(stop) = Arc::new(rt.alloc(), Stop::new()) else {
-        return settle(rt, Err(RunFault::Memory), place);
-    };
-    match watch_end(rt, &stop, stop_at_eof) {
-        Ok(()) => follow_place(rt, place, &stop),
-        Err(fault) => settle(rt, Err(fault), "-"),
-    }
-}
-
-/// Answers a question, and returns the program's status.
-pub(crate) fn answer_asking<
-    R: AllocGlobal
-        + Files<File = File>
-        + Clock
-        + Threads
-        + Wait
-        + Input
-        + Print
-        + Eprint
-        + Sync
-        + Clone
-        + Drop,
->(rt: &R, asking: Asking<'_>) -> u8
-where
-    R::Reader: AsFd,
-{
-    match asking {
-        Asking::Explain { place, form, name } => answer_explain(rt, place, form, name),
-        Asking::List { place, choice } => answer_list(rt, place, choice),
-        Asking::Follow { place, stop_at_eof } => answer_follow(rt, place, stop_at_eof),
-    }
 }
