@@ -1,5 +1,10 @@
 //! Report of what would be served of a folder, without serving it.
 
+ghost use Rattle.std.specs.Prelude.{◌≡◌, None, IsFalse, IfOk, IsErrAnd};
+ghost use Rattle.lra_ids.specs.Addresses.{is_base};
+ghost use Rattle.lra_ids.specs.Bases.{base_text};
+ghost use Rattle.lra_rolling.specs.Outcomes.{IsRefused, IsOfAddress};
+
 use crate::running::FolderOutcome;
 use lra_ids::Base;
 use lra_journal_folder::{Folder, RollingFault, Sound, Unsound, audit_all};
@@ -38,6 +43,41 @@ fn write_report<W: Write>(
     put_settings(alloc, settings, writer)
 }
 
+/// Audits the journals of a folder, and writes the report on them if all are sound.
+fn check_at<R: Files<File = File> + AllocGlobal + Clone + Drop + Clock, V: Notifier, W: Write>(
+    rt: &R,
+    address: &str,
+    site: &ServiceSite,
+    olders: &[Base],
+    path: &str,
+    workers: u32,
+    settings: &Settings,
+    watcher: &V,
+    writer: &mut W,
+) -> Result<FolderOutcome, RollingFault>
+    ensures { IfOk result (IsRefused (W.contents writer.old) (W.contents writer.new)) }
+{
+    let folder = Folder::open(rt, path)?;
+    let contents = folder.contents()?;
+    match audit_all(rt, &folder, &contents, watcher, writer)? {
+        Err(Unsound { status, path }) => Ok(FolderOutcome::Unsound { status, path }),
+        Ok(sounds) => {
+            write_report(
+                rt.alloc(),
+                address,
+                site,
+                olders,
+                path,
+                &sounds,
+                workers,
+                settings,
+                writer,
+            )?;
+            Ok(FolderOutcome::Ended)
+        }
+    }
+}
+
 /// Writes what would be served of a folder at an address, a line each: the address, the base and the older ones, the
 /// folder's name, the number of connection workers, the numbers of journals and of their entries, and all settings. The
 /// folder and its journals are found, locked and audited, as before they are served. Nothing is created, bound or
@@ -56,18 +96,18 @@ pub fn check_folder<
     settings: &Settings,
     watcher: &V,
     writer: &mut W,
-) -> Result<FolderOutcome, RollingFault> {
-    let alloc = rt.alloc();
-    let site = site_at(alloc, address, base)?;
-    let folder = Folder::open(rt, path)?;
-    let contents = folder.contents()?;
-    match audit_all(rt, &folder, &contents, watcher, writer)? {
-        Err(Unsound { status, path }) => Ok(FolderOutcome::Unsound { status, path }),
-        Ok(sounds) => {
-            write_report(
-                alloc, address, &site, olders, path, &sounds, workers, settings, writer,
-            )?;
-            Ok(FolderOutcome::Ended)
-        }
-    }
+) -> Result<FolderOutcome, RollingFault>
+    ensures unsound { IfOk result (IsRefused (W.contents writer.old) (W.contents writer.new)) }
+    ensures base { base ≡ None → IsFalse (is_base (base_text address.now)) → IsErrAnd result IsOfAddress
+        × (W.contents writer.new ≡ W.contents writer.old) }
+{
+    let site = match site_at(rt.alloc(), address, base) {
+        Ok(site) => site,
+        Err(fault) => return Err(RollingFault::Here(fault)),
+    };
+    let checked = check_at(
+        rt, address, &site, olders, path, workers, settings, watcher, writer,
+    );
+    drop(site);
+    checked
 }

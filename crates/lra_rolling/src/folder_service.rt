@@ -1,7 +1,8 @@
 //! Service over a folder whose names, settings and storage are known: it opens the journals, and serves them.
 
-ghost use Rattle.std.specs.Prelude.{◌≡◌, true, All, None};
+ghost use Rattle.std.specs.Prelude.{◌≡◌, true, All, None, IfOk, IfErr};
 ghost use Rattle.lra_opening.specs.Places.{IsRead};
+ghost use Rattle.lra_rolling.specs.Outcomes.{HasSaid, IsSaid};
 
 use crate::folder_driver::{FolderDriver, out_of_memory};
 use crate::folder_state::{FolderRole, FolderState, roles_of};
@@ -530,19 +531,12 @@ impl<R: Wait, V, H: Notifier + EventSink> FolderService<'_, R, V, H> {
         }
     }
 
-    /// Returns the end of a service that has served, or wasn't able to.
-    fn conclude(
-        &self,
-        served: Result<(), ServeFault>,
-        ending: &Arc<ServiceEnding>,
-    ) -> Result<FolderOutcome, RollingFault> {
-        if let Err(fault) = served {
-            return Err(RollingFault::Here(fault));
-        }
+    /// Returns how a service has ended that has served.
+    fn conclude(&self, ending: &Arc<ServiceEnding>) -> Result<(), ServeFault> {
         self.report_failure();
         match end_of(self.rt, self.storage.journals(), ending) {
-            Ok(_) => Ok(FolderOutcome::Ended),
-            Err(fault) => Err(RollingFault::Here(fault)),
+            Ok(_) => Ok(()),
+            Err(fault) => Err(fault),
         }
     }
 }
@@ -603,7 +597,10 @@ impl<
         ending: &Arc<ServiceEnding>,
         moment: u64,
         writer: &mut W,
-    ) -> Result<FolderOutcome, RollingFault> {
+    ) -> Result<FolderOutcome, RollingFault>
+        ensures ended { IfOk result (HasSaid self.now.address.now (W.contents writer.old) (W.contents writer.new)) }
+        ensures fault { IfErr result (IsSaid self.now.address.now (W.contents writer.old) (W.contents writer.new)) }
+    {
         let ThreadParts {
             accept_queue,
             wake_relay,
@@ -624,10 +621,22 @@ impl<
             moment,
             self.operators_context,
         );
-        let served = work(&folder_state, rotation_manager, &roles, writer);
+        let served = work(
+            &folder_state,
+            rotation_manager,
+            &roles,
+            self.address,
+            writer,
+        );
         drop(folder_state);
         drop(roles);
-        self.conclude(served, ending)
+        match served {
+            Ok(()) => match self.conclude(ending) {
+                Ok(()) => Ok(FolderOutcome::Ended),
+                Err(fault) => Err(RollingFault::Here(fault)),
+            },
+            Err(fault) => Err(RollingFault::Here(fault)),
+        }
     }
 
     /// Serves the journals of a registry until the service ends.
@@ -642,7 +651,10 @@ impl<
         acceptor: SocketAcceptor,
         moment: u64,
         writer: &mut W,
-    ) -> Result<FolderOutcome, RollingFault> {
+    ) -> Result<FolderOutcome, RollingFault>
+        ensures ended { IfOk result (HasSaid self.now.address.now (W.contents writer.old) (W.contents writer.new)) }
+        ensures fault { IfErr result (IsSaid self.now.address.now (W.contents writer.old) (W.contents writer.new)) }
+    {
         let SocketAcceptor { line, ending } = acceptor;
         match self.thread_parts() {
             Ok(thread_parts) => {
@@ -680,7 +692,10 @@ impl<
         input: &mut Option<I>,
         moment: u64,
         writer: &mut W,
-    ) -> Result<FolderOutcome, RollingFault> {
+    ) -> Result<FolderOutcome, RollingFault>
+        ensures ended { IfOk result (HasSaid self.now.address.now (W.contents writer.old) (W.contents writer.new)) }
+        ensures fault { IfErr result (IsSaid self.now.address.now (W.contents writer.old) (W.contents writer.new)) }
+    {
         let acceptor = make_socket_acceptor(self.rt, self.alloc, listener, input.take())?;
         self.serve_accepted(rotation_manager, journal_registry, acceptor, moment, writer)
     }
@@ -698,7 +713,10 @@ impl<
         input: &mut Option<I>,
         moment: u64,
         writer: &mut W,
-    ) -> Result<FolderOutcome, RollingFault> {
+    ) -> Result<FolderOutcome, RollingFault>
+        ensures ended { IfOk result (HasSaid self.now.address.now (W.contents writer.old) (W.contents writer.new)) }
+        ensures fault { IfErr result (IsSaid self.now.address.now (W.contents writer.old) (W.contents writer.new)) }
+    {
         match self.journal_registry(rotation_manager) {
             Ok(journal_registry) => {
                 let served = self.serve_listener(
@@ -734,6 +752,8 @@ impl<
         writer: &mut W,
     ) -> Result<FolderOutcome, RollingFault>
         requires { All (λ sound. IsRead None sound.opening) sounds.items }
+        ensures ended { IfOk result (HasSaid self.now.address.now (W.contents writer.old) (W.contents writer.new)) }
+        ensures fault { IfErr result (IsSaid self.now.address.now (W.contents writer.old) (W.contents writer.new)) }
     {
         let ServiceStart {
             listener,
@@ -774,6 +794,8 @@ impl<
         writer: &mut W,
     ) -> Result<FolderOutcome, RollingFault>
         requires { All (λ sound. IsRead None sound.opening) sounds.items }
+        ensures ended { IfOk result (HasSaid self.now.address.now (W.contents writer.old) (W.contents writer.new)) }
+        ensures fault { IfErr result (IsSaid self.now.address.now (W.contents writer.old) (W.contents writer.new)) }
     {
         match self.start(latest(&sounds), &mut entry.listener) {
             Ok(start) => self.serve_opened(start, opener, sounds, &mut entry.input, writer),

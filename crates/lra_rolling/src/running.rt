@@ -1,5 +1,10 @@
 //! The run of a service over a folder.
 
+ghost use Rattle.std.specs.Prelude.{◌≡◌, None, IsFalse, IfOk, IfErr, IsErrAnd};
+ghost use Rattle.lra_ids.specs.Addresses.{is_base};
+ghost use Rattle.lra_ids.specs.Bases.{base_text};
+ghost use Rattle.lra_rolling.specs.Outcomes.{HasSaid, IsSaid, IsOfAddress};
+
 use crate::folder_service::FolderService;
 use crate::operators_view::OperatorsContext;
 use lra_admission::KeyFiles;
@@ -122,7 +127,10 @@ fn serve_audited<
     storage: &Storage,
     entry: &mut ServiceInput<I>,
     writer: &mut W,
-) -> Result<FolderOutcome, RollingFault> {
+) -> Result<FolderOutcome, RollingFault>
+    ensures ended { IfOk result (HasSaid context.now.address.now (W.contents writer.old) (W.contents writer.new)) }
+    ensures fault { IfErr result (IsSaid context.now.address.now (W.contents writer.old) (W.contents writer.new)) }
+{
     let service = FolderService {
         rt: context.rt,
         alloc: context.alloc,
@@ -147,9 +155,8 @@ fn serve_audited<
         found.contents,
         context.watcher,
         writer,
-    )? {
-        Err(Unsound { status, path }) => Ok(FolderOutcome::Unsound { status, path }),
-        Ok(sounds) => {
+    ) {
+        Ok(Ok(sounds)) => {
             let opener = OpeningContext::new(
                 context.rt,
                 context.alloc,
@@ -159,6 +166,8 @@ fn serve_audited<
             );
             service.serve_on(opener, sounds, entry, writer)
         }
+        Ok(Err(Unsound { status, path })) => Ok(FolderOutcome::Unsound { status, path }),
+        Err(fault) => Err(fault),
     }
 }
 
@@ -183,7 +192,10 @@ impl<
         found: &FoundFolder<'_, R>,
         entry: &mut ServiceInput<I>,
         writer: &mut W,
-    ) -> Result<FolderOutcome, RollingFault> {
+    ) -> Result<FolderOutcome, RollingFault>
+        ensures ended { IfOk result (HasSaid self.now.address.now (W.contents writer.old) (W.contents writer.new)) }
+        ensures fault { IfErr result (IsSaid self.now.address.now (W.contents writer.old) (W.contents writer.new)) }
+    {
         let operators_context = operators_context_of(self.alloc, self.operators, found)?;
         let syncs = operators_context.tallies.syncs();
         let served = match Storage::new(self.alloc, syncs, self.folder_options.fence) {
@@ -213,7 +225,10 @@ impl<
         contents: &Contents,
         entry: &mut ServiceInput<I>,
         writer: &mut W,
-    ) -> Result<FolderOutcome, RollingFault> {
+    ) -> Result<FolderOutcome, RollingFault>
+        ensures ended { IfOk result (HasSaid self.now.address.now (W.contents writer.old) (W.contents writer.new)) }
+        ensures fault { IfErr result (IsSaid self.now.address.now (W.contents writer.old) (W.contents writer.new)) }
+    {
         let journals = u32::try_from(contents.journals.len()).unwrap_or(u32::MAX);
         let settings = fit_descriptors(
             self.rt,
@@ -241,7 +256,10 @@ impl<
         site: &ServiceSite,
         entry: &mut ServiceInput<I>,
         writer: &mut W,
-    ) -> Result<FolderOutcome, RollingFault> {
+    ) -> Result<FolderOutcome, RollingFault>
+        ensures ended { IfOk result (HasSaid self.now.address.now (W.contents writer.old) (W.contents writer.new)) }
+        ensures fault { IfErr result (IsSaid self.now.address.now (W.contents writer.old) (W.contents writer.new)) }
+    {
         let folder = Folder::open(self.rt, self.path)?;
         let served = match folder.contents() {
             Ok(contents) => {
@@ -291,7 +309,12 @@ pub fn serve_folder<
     watcher: &V,
     notifier: &H,
     writer: &mut W,
-) -> Result<FolderOutcome, RollingFault> {
+) -> Result<FolderOutcome, RollingFault>
+    ensures ended { IfOk result (HasSaid address.now (W.contents writer.old) (W.contents writer.new)) }
+    ensures fault { IfErr result (IsSaid address.now (W.contents writer.old) (W.contents writer.new)) }
+    ensures base { base ≡ None → IsFalse (is_base (base_text address.now)) → IsErrAnd result IsOfAddress
+        × (W.contents writer.new ≡ W.contents writer.old) }
+{
     let mut entry = entry;
     let context = FolderContext {
         rt,
@@ -306,14 +329,15 @@ pub fn serve_folder<
         watcher,
         notifier,
     };
-    let served = match site_at(context.alloc, address, base) {
-        Ok(site) => {
-            let served = context.serve_at(&site, &mut entry, writer);
-            drop(site);
-            served
+    let site = match site_at(context.alloc, address, base) {
+        Ok(site) => site,
+        Err(fault) => {
+            drop(entry);
+            return Err(RollingFault::Here(fault));
         }
-        Err(fault) => Err(RollingFault::Here(fault)),
     };
+    let served = context.serve_at(&site, &mut entry, writer);
+    drop(site);
     drop(entry);
     served
 }

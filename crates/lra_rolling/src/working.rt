@@ -1,6 +1,11 @@
 //! The threads of a service over a folder.
 
+ghost use Rattle.std.specs.Prelude.{◌≡◌, ◌⊎◌, IfErr, OnOk};
+ghost use Rattle.std.specs.Io.KnownBytes.{Appends};
 ghost use Rattle.std.specs.Thread.{IsSend, IsSync};
+ghost use Rattle.lra_opening.specs.Ends.{serving_line};
+ghost use Rattle.lra_journal_folder.specs.declared.fault.RollingFault.TheVariants.{Here};
+ghost use Rattle.lra_rolling.specs.Outcomes.{IsSaid};
 
 use crate::folder_state::{FolderRole, FolderState};
 use crate::rotation_manager::RotationManager;
@@ -11,6 +16,7 @@ use lra_logs::{Event, EventSink};
 use lra_opening::{Notifier, ServeFault};
 use lra_service::say;
 use lra_sessions::JournalSession;
+use std::alloc::Global;
 use std::fs::File;
 use std::io::Write;
 use std::marker::{Send, Sync};
@@ -20,6 +26,15 @@ use std::sync::Wait;
 use std::thread;
 use std::thread::{Builder, Threads};
 use std::time::Clock;
+
+/// Writes that an address is served.
+fn announce<W: Write>(alloc: Global, address: &str, writer: &mut W) -> Result<(), ServeFault>
+    ensures said { OnOk result (Appends (W.contents writer.old) (W.contents writer.new) (serving_line address.now)) }
+    ensures fault { IfErr result (λ fault. IsSaid address.now (W.contents writer.old) (W.contents writer.new)
+        (Here fault)) }
+{
+    say(alloc, address, writer)
+}
 
 /// Starts a thread for each role, and a callback worker for each journal. Then it says that the service serves, and
 /// maintains the journals, with a callback worker for each new one, until the service is to end or no connection worker
@@ -45,23 +60,33 @@ pub(crate) fn work<
     folder_state: &FolderState<'_, 'a, R, H, B>,
     rotation_manager: &mut RotationManager<'_, 'a, R, H, O, B>,
     roles: &[FolderRole],
+    address: &str,
     writer: &mut W,
-) -> Result<(), ServeFault> {
+) -> Result<(), ServeFault>
+    ensures said { OnOk result (Appends (W.contents writer.old) (W.contents writer.new) (serving_line address.now)) }
+    ensures fault { IfErr result (λ fault. IsSaid address.now (W.contents writer.old) (W.contents writer.new)
+        (Here fault)) }
+{
     let Ok((_version, journals)) = folder_state.journal_registry.all(folder_state.rt) else {
         return Err(ServeFault::Run(RunFault::Memory));
     };
     rotation_manager.start_all(journals);
-    thread::scope(
+    let (worked, back, managed) = thread::scope(
         thread::scope_env(),
         folder_state.rt,
-        |scope| -> Result<(), ServeFault>
+        move |scope|
             requires { IsSync R.row × IsSync H.row × IsSend B.row }
+            ensures said { OnOk result.0 (Appends (W.contents writer.entry.now) (W.contents result.1.now)
+                (serving_line address.entry.now)) }
+            ensures fault { IfErr result.0 (λ fault. IsSaid address.entry.now (W.contents writer.entry.now)
+                (W.contents result.1.now) (Here fault)) }
+            ensures back { result.1.ghost_name ≡ writer.entry.ghost_name }
         {
             for role in roles {
                 let role = *role;
                 let started = Builder::new().spawn_scoped(scope, move || folder_state.stand(role));
                 if started.is_err() {
-                    return Err(folder_state.give_up());
+                    return (Err(folder_state.give_up()), writer, rotation_manager);
                 }
             }
             for _journal in 0..rotation_manager.count_idle() {
@@ -73,12 +98,12 @@ pub(crate) fn work<
                     drop(journal);
                 });
                 if started.is_err() {
-                    return Err(folder_state.give_up());
+                    return (Err(folder_state.give_up()), writer, rotation_manager);
                 }
             }
-            if let Err(fault) = say(folder_state.alloc, rotation_manager.address, writer) {
+            if let Err(fault) = announce(folder_state.alloc, address, writer) {
                 let _ = folder_state.give_up();
-                return Err(fault);
+                return (Err(fault), writer, rotation_manager);
             }
             folder_state.notifier.note(&Event::Serving {
                 journals: rotation_manager.count_journals(),
@@ -87,16 +112,19 @@ pub(crate) fn work<
             rotation_manager.begin();
             folder_state.begin();
             for _ in folder_state.rt.forever() {
-                let Some(journal) = rotation_manager.next(folder_state) else {
+                let Some(journal) = rotation_manager.next(&*folder_state) else {
                     break;
                 };
                 let started = Builder::new().spawn_scoped(scope, move || {
                     folder_state.carry(&journal);
                     drop(journal);
                 });
-                rotation_manager.note_thread(folder_state, started.is_ok());
+                rotation_manager.note_thread(&*folder_state, started.is_ok());
             }
-            Ok(())
+            (Ok(()), writer, rotation_manager)
         },
-    )
+    );
+    let _writer = back;
+    let _manager = managed;
+    worked
 }
