@@ -6,7 +6,7 @@ use lra_ids::Base;
 use lra_operators_server::{PortFault, read_key};
 use lra_options::{Options, OptionsFault, RawOptions, Word};
 use lra_rules::{Rule, RuleFault, Rules};
-use lra_service::{AccessPolicy, keys_trouble};
+use lra_server::{AccessPolicy, keys_trouble};
 use lra_storage::{Fence, Fenced};
 use std::alloc::{AllocError, Global};
 use std::fs::File;

@@ -5,7 +5,7 @@ use lra_inspect::{FAULT, Reason, why_unread, with_reason};
 use lra_logs::Level;
 use lra_opening::{Notifier, ServeFault};
 use lra_options::OptionsFault;
-use lra_service::{LoggingNotifier, site_at};
+use lra_server::{LoggingNotifier, site_at};
 use std::alloc::{AllocError, Global};
 use std::fs;
 use std::fs::{File, OpenOptions, TryLockError};

@@ -11,7 +11,7 @@ use lra_options::Options;
 use lra_rolling::{
     FolderOptions, FolderOutcome, RollingFault, check_folder, rolling_line, serve_folder,
 };
-use lra_service::{LoggingNotifier, ServiceInput};
+use lra_server::{LoggingNotifier, ServiceInput};
 use lra_storage::Timed;
 use std::env::Env;
 use std::fs::File;

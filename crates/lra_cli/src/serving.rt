@@ -10,15 +10,15 @@ use lra_folders::is_folder;
 use lra_ids::Base;
 use lra_inspect::{report_misuse, standard_input};
 use lra_logs::{Format, LevelFilter, Logbook, has_priorities, level_named};
-use lra_opening::NamedFile;
+use lra_opening::{NamedFile, Notifier, ServeFault, StandardErrorNotifier, fault_line};
 use lra_operators_server::{OperatorsServer, PortFault, port_line, read_key};
 use lra_options::{Options, OptionsFault, RawOptions, Word, read_options};
 use lra_reports::hint_line;
-use lra_service::{
-    AccessPolicy, BoundAddress, LoggingNotifier, Notifier, ServeFault, ServiceInput,
-    ServiceOutcome, StandardErrorNotifier, bound_address_at, check_place, fault_line,
-    fit_descriptors, put_text, put_texts, serve_with,
+use lra_server::{
+    AccessPolicy, BoundAddress, LoggingNotifier, ServiceInput, bound_address_at, fit_descriptors,
+    put_text, put_texts,
 };
+use lra_service::{ServiceOutcome, check_place, serve_with};
 use lra_settings::{Settings, taken_by_file};
 use lra_storage::{Fenced, Timed};
 use std::alloc::Global;

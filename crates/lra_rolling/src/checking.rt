@@ -9,7 +9,7 @@ use crate::running::FolderOutcome;
 use lra_ids::Base;
 use lra_journal_folder::{Folder, RollingFault, Sound, Unsound, audit_all};
 use lra_opening::{Notifier, ServeFault};
-use lra_service::{ServiceSite, put_number, put_olders, put_settings, put_text, site_at};
+use lra_server::{ServiceSite, put_number, put_olders, put_settings, put_text, site_at};
 use lra_settings::Settings;
 use std::alloc::Global;
 use std::fs::File;

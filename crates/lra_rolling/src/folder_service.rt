@@ -24,7 +24,7 @@ use lra_model::{Instance, Memory};
 use lra_opening::{Notifier, ServeFault};
 use lra_registry::{JournalBounds, JournalMonitor, JournalRegistry, ServedJournal, observe_all};
 use lra_rotation::{Counts, FoundJournals, Rotation, RotationSettings, next_instance};
-use lra_service::{
+use lra_server::{
     AccessPolicy, PolledListener, ServiceEnding, ServiceInput, ServiceSite, SocketAcceptor, end_of,
     limits_of, listener_at, make_socket_acceptor,
 };

@@ -13,13 +13,13 @@ use lra_event_loop::{AcceptQueue, EventLoop, EventLoopEnd, Times};
 use lra_journal_router::JournalRouter;
 use lra_logs::{Event, EventSink};
 use lra_model::Instance;
-use lra_opening::Notifier;
+use lra_opening::{Notifier, ServeFault};
 use lra_operators_server::{CountingCallbackPool, serve_operators};
 use lra_registry::{JournalRegistry, Reservations, ServedJournal, SetMembers};
-use lra_service::{
+use lra_server::{
     AccessPolicy, CallbackSettings, CallbackWorkerGate, Dispatcher, Latch, OperatorsRefusalLogger,
-    PolledListener, RefusalLogger, ServeFault, ServiceEnding, dismiss, lose_callback_worker,
-    lose_worker, receive, times_of,
+    PolledListener, RefusalLogger, ServiceEnding, dismiss, lose_callback_worker, lose_worker,
+    receive, times_of,
 };
 use lra_sessions::JournalSession;
 use lra_settings::Settings;

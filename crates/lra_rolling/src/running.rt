@@ -15,7 +15,7 @@ use lra_journal_folder::{Contents, Folder, GivenUp, RollingFault, Unsound, audit
 use lra_logs::EventSink;
 use lra_opening::{Notifier, ServeFault};
 use lra_operators_server::{OperatorsServer, Tallies};
-use lra_service::{AccessPolicy, ServiceInput, ServiceSite, fit_descriptors, limits_of, site_at};
+use lra_server::{AccessPolicy, ServiceInput, ServiceSite, fit_descriptors, limits_of, site_at};
 use lra_settings::{Settings, taken_by_folder};
 use lra_storage::Storage;
 use std::alloc::Global;
@@ -274,10 +274,10 @@ impl<
     }
 }
 
-/// Serves the coordinators of a folder's journals at an address, as [`lra_service::serve_with`] serves that of a file.
-/// New work that names no journal goes to the newest journal. Once that is full, or has as many actions as it is to
-/// have, the next one replaces it. A journal that isn't the newest is archived once nothing of it is left to be done.
-/// If there is an operators' server, one more thread runs it, for all journals. A service that drains ends gently once
+/// Serves the coordinators of a folder's journals at an address, as `serve_with` of `lra_service` serves a file's. New
+/// work that names no journal goes to the newest journal. Once that is full, or has as many actions as it is to have,
+/// the next one replaces it. A journal that isn't the newest is archived once nothing of it is left to be done. If
+/// there is an operators' server, one more thread runs it, for all journals. A service that drains ends gently once
 /// nothing is left to be done in any journal, for as long as the journal would stay.
 pub fn serve_folder<
     R: Files<File = File>

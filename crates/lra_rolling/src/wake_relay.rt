@@ -1,7 +1,7 @@
 //! Wake relay of the callback workers.
 
 use lra_registry::JournalRegistry;
-use lra_service::ServiceEnding;
+use lra_server::ServiceEnding;
 use mio::{Events, Poll, Waker};
 use std::alloc::Global;
 use std::net::Net;

@@ -14,7 +14,7 @@ use lra_audits::RunFault;
 use lra_journal_factory::Opener;
 use lra_logs::{Event, EventSink};
 use lra_opening::{Notifier, ServeFault};
-use lra_service::say;
+use lra_server::say;
 use lra_sessions::JournalSession;
 use std::alloc::Global;
 use std::fs::File;

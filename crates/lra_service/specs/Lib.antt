@@ -1,4 +1,2 @@
-pub mod Limited
 pub mod Outcomes
-pub mod Sited
 pub mod inner

@@ -1,3 +1,2 @@
 -- Definitions that only private functions and proofs use.
 pub mod Opened
-pub mod Stamina

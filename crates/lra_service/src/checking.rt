@@ -5,48 +5,14 @@ ghost use Rattle.lra_ids.specs.Addresses.{is_base};
 ghost use Rattle.lra_ids.specs.Bases.{base_text};
 ghost use Rattle.lra_opening.specs.Ends.{IsRefused, IsOfAddress};
 
-use crate::base::{ServiceSite, site_at};
-use crate::toml_lines::{put_number, put_text, put_texts};
 use lra_audits::put;
 use lra_core::Opening;
 use lra_ids::Base;
 use lra_opening::{Found, Place, ServeFault, find_journal, is_new, refuse};
-use lra_settings::{Parameter, Settings};
+use lra_server::{ServiceSite, put_number, put_olders, put_settings, put_text, site_at};
+use lra_settings::Settings;
 use std::alloc::Global;
 use std::io::Write;
-
-/// Writes a line of the older bases, if there are any.
-pub fn put_olders<W: Write>(
-    alloc: Global,
-    olders: &[Base],
-    writer: &mut W,
-) -> Result<(), ServeFault> {
-    let mut texts = Vec::new(alloc);
-    for base in olders {
-        texts.push(base.as_str())?;
-    }
-    put_texts(alloc, "also-base", &texts, writer)
-}
-
-/// Writes a line for each setting, but none for a default limit that isn't set.
-pub fn put_settings<W: Write>(
-    alloc: Global,
-    settings: &Settings,
-    writer: &mut W,
-) -> Result<(), ServeFault> {
-    for parameter in &Parameter::ALL {
-        let value = settings.get(*parameter);
-        if parameter.fits(value) {
-            put_number(alloc, parameter.name(), value, writer)?;
-        }
-    }
-    let line = if settings.stop_at_eof {
-        "stop-at-eof = true\n"
-    } else {
-        "stop-at-eof = false\n"
-    };
-    Ok(put(writer, line.as_bytes())?)
-}
 
 /// Writes the number of entries of a sound journal, or that the journal is new.
 pub fn put_journal<W: Write>(

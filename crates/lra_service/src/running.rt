@@ -9,20 +9,13 @@ ghost use Rattle.lra_opening.specs.Ends.{serving_line, IsSaid, IsRefused, IsOfAd
 ghost use Rattle.lra_opening.specs.Faults.{IsOfNoScript};
 ghost use Rattle.lra_opening.specs.Places.{IsFound, IsRead};
 ghost use Rattle.lra_service.specs.Outcomes.{HasSaid};
-ghost use Rattle.lra_service.specs.Limited.{limits_of};
+ghost use Rattle.lra_server.specs.Limited.{limits_of};
 ghost use Rattle.lra_service.specs.inner.Opened.{IsOpenAt};
 
-use crate::access_policy::AccessPolicy;
-use crate::base::{ServiceSite, site_at};
-use crate::bound_address::{ServiceInput, listener_at};
-use crate::ending::end_of;
 use crate::measure::{JournalAtStart, ServiceStatistics, begun_from};
-use crate::notifier::NullNotifier;
 use crate::polls::{Polls, polls_of};
 use crate::roles::spawn_all;
 use crate::service_state::ServiceState;
-use crate::shares::limits_of;
-use crate::socket_acceptor::{SocketAcceptor, make_socket_acceptor};
 use crate::starting::work;
 use lra_admission::KeyFiles;
 use lra_audits::{LONGEST, RunFault};
@@ -37,6 +30,10 @@ use lra_opening::{
 };
 use lra_operators_server::{OperatorsServer, Tallies};
 use lra_rules::Rules;
+use lra_server::{
+    AccessPolicy, NullNotifier, ServiceInput, ServiceSite, SocketAcceptor, end_of, limits_of,
+    listener_at, make_socket_acceptor, site_at,
+};
 use lra_settings::Settings;
 use lra_storage::{FileDisk, OpenFile, Storage};
 use std::alloc::Global;
@@ -319,7 +316,10 @@ impl<
         drop(storage);
         drop(ending);
         match served {
-            Ok(()) => end,
+            Ok(()) => match end {
+                Ok(()) => Ok(ServiceOutcome::Ended),
+                Err(fault) => Err(fault),
+            },
             Err(fault) => Err(fault),
         }
     }

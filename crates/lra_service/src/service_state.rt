@@ -4,18 +4,11 @@ ghost use Rattle.std.specs.Prelude.{◌≡◌, [], IfOk, IfSome};
 ghost use Rattle.lra_ticket.specs.Locks.{lock_id};
 ghost use Rattle.lra_service.specs.inner.Opened.{IsAt};
 
-use crate::access_policy::{AccessPolicy, RefusalLogger, dismiss, receive};
-use crate::dispatcher::{Dispatcher, PolledListener};
-use crate::ending::ServiceEnding;
-use crate::gate::CallbackWorkerGate;
-use crate::latch::Latch;
 use crate::measure::{Now, ServiceStatistics};
-use crate::notifier::{OperatorsRefusalLogger, lose_callback_worker, lose_worker};
 use crate::operators_view::OperatorsView;
 use crate::polls::Polls;
 use crate::roles::Role;
 use crate::running::FileEnd;
-use crate::shares::{CallbackSettings, times_of};
 use lra_admission::KeyFiles;
 use lra_callbacks::{Callbacks, WorkerSlot, wake_workers};
 use lra_clocks::SystemClock;
@@ -30,6 +23,11 @@ use lra_operators_server::{
 };
 use lra_outcomes::Outcomes;
 use lra_overview::Facts;
+use lra_server::{
+    AccessPolicy, CallbackSettings, CallbackWorkerGate, Dispatcher, Latch, OperatorsRefusalLogger,
+    PolledListener, RefusalLogger, ServiceEnding, dismiss, lose_callback_worker, lose_worker,
+    receive, times_of,
+};
 use lra_settings::Settings;
 use lra_storage::FileDisk;
 use lra_workers::{Gate, WorkerEnd, run_callback_worker};

@@ -6,13 +6,13 @@ ghost use Rattle.std.specs.Thread.{IsSend, IsSync};
 ghost use Rattle.lra_opening.specs.Ends.{serving_line, IsSaid};
 ghost use Rattle.lra_service.specs.inner.Opened.{IsAt};
 
-use crate::ending::say;
 use crate::roles::Role;
 use crate::service_state::ServiceState;
 use lra_admission::KeyFiles;
 use lra_logs::EventSink;
 use lra_office::{Clerk, LockedService, OfficeOf};
 use lra_opening::{Notifier, ServeFault};
+use lra_server::say;
 use std::io::Write;
 use std::marker::{Send, Sync};
 use std::net::{Net, TcpListener, TcpStream};

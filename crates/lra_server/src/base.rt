@@ -4,7 +4,7 @@ ghost use Rattle.std.specs.Prelude.{◌≡◌, true, false, None, Err, IfOk, IfE
 ghost use Rattle.lra_ids.specs.Addresses.{is_base};
 ghost use Rattle.lra_ids.specs.Bases.{base_text, is_own_base};
 ghost use Rattle.lra_opening.specs.Ends.{IsOfAddress};
-ghost use Rattle.lra_service.specs.Sited.{base_served};
+ghost use Rattle.lra_server.specs.Sited.{base_served};
 
 use lra_audits::RunFault;
 use lra_courier::socket_text;

@@ -1,7 +1,7 @@
 //! Pauses of a callback worker that is refused memory.
 
 ghost use Rattle.std.specs.Prelude.{◌≡◌, ◌≤◌};
-ghost use Rattle.lra_service.specs.inner.Stamina as spec;
+ghost use Rattle.lra_server.specs.inner.Stamina as spec;
 
 use lra_timers::pause;
 

@@ -2,7 +2,7 @@
 
 ghost use Rattle.std.specs.Prelude.{◌≡◌, ◌++◌, codes, decimal, string_bytes, IfOk, IfErr, IfSome};
 ghost use Rattle.lra_opening.specs.Ends.{IsOfAddress};
-ghost use Rattle.lra_service.specs.Sited.{IsBoundAddressOf};
+ghost use Rattle.lra_server.specs.Sited.{IsBoundAddressOf};
 
 use crate::base::bind;
 use lra_audits::RunFault;

@@ -1,11 +1,10 @@
 //! End of a service.
 
-ghost use Rattle.std.specs.Prelude.{◌≡◌, ◌⊎◌, IfOk, IfErr, OnOk};
+ghost use Rattle.std.specs.Prelude.{◌≡◌, ◌⊎◌, IfErr, OnOk};
 ghost use Rattle.std.specs.Io.KnownBytes.{Appends};
 ghost use Rattle.lra_opening.specs.Ends.{serving_line, IsSaid};
 ghost use Rattle.lra_opening.specs.Faults.{IsOfNoScript};
 
-use crate::running::ServiceOutcome;
 use lra_audits::RunFault;
 use lra_durable::{Disk, Journals, SyncGroup};
 use lra_opening::ServeFault;
@@ -125,15 +124,14 @@ pub fn say<W: Write>(alloc: Global, address: &str, writer: &mut W) -> Result<(),
     Ok(())
 }
 
-/// Returns how a service has ended that began. It has ended gently if it was asked to, no sync has failed, and all that
-/// was written is durable.
+/// Returns a fault unless a service that began has ended gently: it was asked to, no sync has failed, and all that was
+/// written is durable.
 pub fn end_of<R: Wait, D: Disk>(
     rt: &R,
     journals: &Journals<D>,
     ending: &Arc<ServiceEnding>,
-) -> Result<ServiceOutcome, ServeFault>
-    ensures ended { IfOk result (λ served. served ≡ ServiceOutcome.Ended) }
-    ensures fault { IfErr result (λ fault. (fault ≡ ServeFault.File) ⊎ (fault ≡ ServeFault.Address)) }
+) -> Result<(), ServeFault>
+    ensures { IfErr result (λ fault. (fault ≡ ServeFault.File) ⊎ (fault ≡ ServeFault.Address)) }
 {
     if journals.has_failed(rt) {
         return Err(ServeFault::File);
@@ -142,7 +140,7 @@ pub fn end_of<R: Wait, D: Disk>(
         return Err(ServeFault::Address);
     }
     match journals.keep_all(rt) {
-        Ok(true) => Ok(ServiceOutcome::Ended),
+        Ok(true) => Ok(()),
         Ok(false) | Err(_) => Err(ServeFault::File),
     }
 }

@@ -2,7 +2,7 @@
 
 ghost use Rattle.std.specs.Prelude.{◌≡◌};
 ghost use Rattle.lra_commands.specs.Terms.{AreKeepable};
-ghost use Rattle.lra_service.specs.Limited.{limits_of};
+ghost use Rattle.lra_server.specs.Limited.{limits_of};
 
 use lra_callbacks::{Quota, SharedDnsCache, TimeOuts, WorkerQuota};
 use lra_commands::Limits;
