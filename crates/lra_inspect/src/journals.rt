@@ -159,7 +159,7 @@ impl FollowedJournal {
 
 /// Journals of a folder that are followed, in the order of their names.
 #[derive(Drop)]
-pub struct FollowedJournals<'a> {
+pub(crate) struct FollowedJournals<'a> {
     alloc: Global,
     folder: &'a str,
     all: Vec<FollowedJournal>,
@@ -167,7 +167,7 @@ pub struct FollowedJournals<'a> {
 
 impl<'a> FollowedJournals<'a> {
     /// Makes a set of no journals yet.
-    pub fn new(alloc: Global, folder: &'a str) -> FollowedJournals<'a> {
+    pub(crate) fn new(alloc: Global, folder: &'a str) -> FollowedJournals<'a> {
         FollowedJournals {
             alloc,
             folder,
@@ -217,7 +217,7 @@ impl<'a> FollowedJournals<'a> {
 
     /// Polls each journal, and those of these names that are new. Returns the program's status if the program ends by
     /// an outcome.
-    pub fn poll<R: AllocGlobal + Files<File = File> + Eprint, W: Write>(
+    pub(crate) fn poll<R: AllocGlobal + Files<File = File> + Eprint, W: Write>(
         &mut self,
         rt: &R,
         names: &[String],

@@ -20,13 +20,13 @@ const IGNORED: usize = 256;
 
 /// Request that the program ends.
 #[derive(Drop)]
-pub struct Stop {
+pub(crate) struct Stop {
     is_asked: AtomicBool,
 }
 
 impl Stop {
     /// Makes a request that isn't made yet: the program is to go on.
-    pub fn new() -> Stop {
+    pub(crate) fn new() -> Stop {
         Stop {
             is_asked: AtomicBool::new(false),
         }
@@ -38,13 +38,13 @@ impl Stop {
     }
 
     /// Returns whether the program is to end.
-    pub fn is_asked(&self) -> bool {
+    pub(crate) fn is_asked(&self) -> bool {
         self.is_asked.load(Ordering::SeqCst)
     }
 }
 
 /// Sleeps from one poll to the next.
-pub fn pause<R: Clock>(rt: &R) {
+pub(crate) fn pause<R: Clock>(rt: &R) {
     sleep(rt, Duration::from_millis(PAUSE));
 }
 
@@ -63,7 +63,7 @@ fn read_out<I: Read>(input: &mut I) {
 
 /// Starts a thread that reads an input to its end, and then requests the end of the program. The thread is never
 /// joined, so that no caller waits for it.
-pub fn watch_input<R: Threads, I: Read + Send + Drop + 'static>(
+pub(crate) fn watch_input<R: Threads, I: Read + Send + Drop + 'static>(
     rt: &R,
     stop: &Arc<Stop>,
     input: I,
@@ -112,7 +112,7 @@ fn follow_to<R: AllocGlobal + Files<File = File> + Clock + Wait + Eprint, W: Wri
 
 /// Follows a journal. Returns the program's status: 1 if a line of it is at fault, 2 if its file is lost or can't be
 /// read, and 0 if the end was requested.
-pub fn follow<R: AllocGlobal + Files<File = File> + Clock + Wait + Print + Eprint>(
+pub(crate) fn follow<R: AllocGlobal + Files<File = File> + Clock + Wait + Print + Eprint>(
     rt: &R,
     file: &str,
     stop: &Arc<Stop>,
