@@ -411,7 +411,7 @@ impl<
     B: JournalSession + Drop,
 > FolderState<'s, 'a, R, H, B> {
     /// Fires the limits of a journal and carries out its errands, many at once, with a poll of its own.
-    fn carry_with(&self, journal: &ServedJournal<B>, poll: Poll) {
+    fn run_callbacks_at(&self, journal: &ServedJournal<B>, poll: Poll) {
         let mut gate = self.gate(journal);
         let Some(session) = self.enrol(journal, &mut gate) else {
             drop(poll);
@@ -430,10 +430,10 @@ impl<
 
     /// Fires the limits of a journal and carries out its errands, many at once. If the journal's worker slot has no
     /// poll, closes the accept queues.
-    pub(crate) fn carry(&self, journal: &ServedJournal<B>) {
+    pub(crate) fn run_callbacks(&self, journal: &ServedJournal<B>) {
         let poll = journal.worker_slot.poll.lock(self.rt).take();
         match poll {
-            Some(poll) => self.carry_with(journal, poll),
+            Some(poll) => self.run_callbacks_at(journal, poll),
             None => self.dispatcher.close(),
         }
     }
@@ -441,7 +441,7 @@ impl<
     /// Waits until all threads run, and then works as the callback worker of a journal.
     pub(crate) fn start_callbacks(&self, journal: &ServedJournal<B>) {
         if self.latch.pass(self.rt) {
-            self.carry(journal);
+            self.run_callbacks(journal);
         }
     }
 }
@@ -521,7 +521,7 @@ impl<
     }
 
     /// Waits until all threads run, and then works in a role.
-    pub(crate) fn stand(&self, role: FolderRole) {
+    pub(crate) fn run_role(&self, role: FolderRole) {
         if !self.latch.pass(self.rt) {
             return;
         }

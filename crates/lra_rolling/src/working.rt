@@ -84,7 +84,10 @@ pub(crate) fn work<
         {
             for role in roles {
                 let role = *role;
-                let started = Builder::new().spawn_scoped(scope, move || folder_state.stand(role));
+                let started = Builder::new().spawn_scoped(
+                    scope,
+                    move || folder_state.run_role(role),
+                );
                 if started.is_err() {
                     return (Err(folder_state.give_up()), writer, rotation_manager);
                 }
@@ -116,7 +119,7 @@ pub(crate) fn work<
                     break;
                 };
                 let started = Builder::new().spawn_scoped(scope, move || {
-                    folder_state.carry(&journal);
+                    folder_state.run_callbacks(&journal);
                     drop(journal);
                 });
                 rotation_manager.note_thread(&*folder_state, started.is_ok());

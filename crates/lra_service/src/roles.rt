@@ -15,7 +15,7 @@ pub(crate) enum Role {
     /// Answers the connections of the accept queue at that index.
     Answer(u32),
     /// Lets limits fire and makes the callbacks of errands, in that slot.
-    Carry(u32),
+    Callbacks(u32),
     /// Answers operators.
     Watch,
 }
@@ -62,10 +62,10 @@ fn add_all<V: LockedService, R: Wait>(
 {
     let mut next = first;
     for place in 1..workers {
-        let other = register_worker(rt, office, next, Role::Carry(place), moment, jobs)?;
+        let other = register_worker(rt, office, next, Role::Callbacks(place), moment, jobs)?;
         next = register_worker(rt, office, other, Role::Answer(place), moment, jobs)?;
     }
-    let last = register_worker(rt, office, next, Role::Carry(0), moment, jobs)?;
+    let last = register_worker(rt, office, next, Role::Callbacks(0), moment, jobs)?;
     jobs.push((Role::Answer(0), last))?;
     Ok(())
 }

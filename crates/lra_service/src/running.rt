@@ -271,7 +271,7 @@ impl<
     /// Opens the office of a journal with the parts that are ready, and serves. Returns how the service has ended.
     fn serve_at<W: Write>(
         &self,
-        stand: OpenedJournal<'_, R>,
+        opened: OpenedJournal<'_, R>,
         opening: Opening,
         writer: &mut W,
     ) -> Result<ServiceOutcome, ServeFault>
@@ -289,7 +289,7 @@ impl<
             polls,
             moment,
             measure,
-        } = stand;
+        } = opened;
         let SocketAcceptor { line, ending } = acceptor;
         let journals = storage.journals();
         let service_state = ServiceState::new(
@@ -325,7 +325,7 @@ impl<
     }
 
     /// Returns the parts of a service that is ready to serve, on a file that has just its journal's whole lines.
-    fn stand(
+    fn open_journal(
         &self,
         file: File,
         acceptor: SocketAcceptor,
@@ -364,7 +364,7 @@ impl<
         let file = ready_file(self.place, found, opening)?;
         let acceptor = make_socket_acceptor(self.rt, self.alloc, listener, input)?;
         let begun = begun_from(opening, limits_of(&self.settings));
-        self.stand(file, acceptor, begun, opening.last_moment())
+        self.open_journal(file, acceptor, begun, opening.last_moment())
     }
 
     /// Serves a sound journal, whose file was found.
@@ -382,7 +382,7 @@ impl<
         ensures fault { IfErr result (IsSaid self.now.address.now (W.contents writer.old) (W.contents writer.new)) }
     {
         match self.make_ready(found, &opening, entry) {
-            Ok(stand) => self.serve_at(stand, opening, writer),
+            Ok(opened) => self.serve_at(opened, opening, writer),
             Err(fault) => {
                 drop(opening);
                 Err(fault)

@@ -469,7 +469,7 @@ impl<R: Wait + Clock + Net, H: Notifier + EventSink> ServiceState<'_, R, H> {
 
     /// Lets limits fire and makes the callbacks of errands, many at once, in a slot. If the slot has no poll, ends the
     /// connection workers.
-    fn carry<V: LockedService>(&self, place: u32, office: &OfficeOf<V>, clerk: Clerk<V>)
+    fn run_callbacks<V: LockedService>(&self, place: u32, office: &OfficeOf<V>, clerk: Clerk<V>)
         requires { IsAt V.setting V.covers office.now clerk }
     {
         match self.take_poll(place) {
@@ -548,7 +548,12 @@ impl<
 
     /// Waits until all threads have started, and does the work of a clerk's role. With the last clerk's end, ends the
     /// resolvers and the acceptor.
-    pub(crate) fn stand<V: LockedService>(&self, office: &OfficeOf<V>, role: Role, clerk: Clerk<V>)
+    pub(crate) fn run_role<V: LockedService>(
+        &self,
+        office: &OfficeOf<V>,
+        role: Role,
+        clerk: Clerk<V>,
+    )
         requires { IsAt V.setting V.covers office.now clerk }
     {
         if !self.latch.pass(self.rt) {
@@ -566,7 +571,7 @@ impl<
     {
         match role {
             Role::Answer(place) => self.answer(place, office, clerk),
-            Role::Carry(place) => self.carry(place, office, clerk),
+            Role::Callbacks(place) => self.run_callbacks(place, office, clerk),
             Role::Watch => self.watch(office, clerk),
         }
     }

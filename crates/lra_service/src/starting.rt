@@ -58,7 +58,7 @@ pub(crate) fn work<
                     scope,
                     move ||
                         requires { IsAt V.setting V.covers office.now job.1 }
-                    { service_state.stand(office, job.0, job.1) },
+                    { service_state.run_role(office, job.0, job.1) },
                 );
                 if started.is_err() {
                     return (Err(service_state.give_up()), writer);
