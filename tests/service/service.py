@@ -165,9 +165,10 @@ class Service:
 
     def begin(self, stdin=subprocess.DEVNULL, stderr=subprocess.STDOUT):
         """Starts the program."""
-        # SIGXFSZ stays ignored, as Python has it: else a file that may not grow would end the program.
+        # SIGXFSZ stays ignored, as Python has it: else a file that may not grow would end the program. Nothing is read
+        # ahead: a second line that came with the first would be waited for in vain.
         self.process = subprocess.Popen(
-            self.words, stdin=stdin, stdout=subprocess.PIPE, stderr=stderr, restore_signals=False
+            self.words, bufsize=0, stdin=stdin, stdout=subprocess.PIPE, stderr=stderr, restore_signals=False
         )
         with lock:
             started.append(self.process)
