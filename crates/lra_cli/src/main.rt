@@ -4,9 +4,9 @@
 #![tactic(auto)]
 
 mod access_configuration;
+mod folder_serving;
 mod nowhere;
 mod reasons;
-mod rolling;
 mod serving;
 
 use crate::serving::{answer_options, answer_serve, have_options};

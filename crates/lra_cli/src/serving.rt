@@ -1,9 +1,9 @@
 //! The service of a journal, or of a folder of them.
 
 use crate::access_configuration::{AccessConfiguration, access_configuration_of, copy_base, wrong};
+use crate::folder_serving::{check_folder_service, serve_folder_service};
 use crate::nowhere::warn_of_nowhere;
 use crate::reasons::{FaultLog, Unlogged, fail, log_unsound};
-use crate::rolling::{check_rolling, serve_rolling};
 use lra_admission::KeyFiles;
 use lra_audits::{RunFault, error_line, put, settle};
 use lra_folders::is_folder;
@@ -223,7 +223,7 @@ fn answer_check<
         &StandardErrorNotifier { rt },
     );
     if is_folder(rt, options.file) {
-        return check_rolling(rt, options, base, watcher);
+        return check_folder_service(rt, options, base, watcher);
     }
     let told = match check_file(rt, options, options.file, base, watcher) {
         Ok(0) => put_words(rt.alloc(), options, &mut io::writer(rt)).map(|_| 0),
@@ -388,7 +388,7 @@ fn answer_until<
     warn_of_nowhere(rt.alloc(), options, address.as_str(), &logging_notifier);
     let entry = ServiceInput { listener, input };
     if is_folder(rt, options.file) {
-        return serve_rolling(
+        return serve_folder_service(
             rt,
             options,
             address.as_str(),

@@ -3,7 +3,7 @@
 ghost use Rattle.std.specs.Prelude.{◌≡◌, None, IsFalse, IfOk, IsErrAnd};
 ghost use Rattle.lra_ids.specs.Addresses.{is_base};
 ghost use Rattle.lra_ids.specs.Bases.{base_text};
-ghost use Rattle.lra_rolling.specs.Outcomes.{IsRefused, IsOfAddress};
+ghost use Rattle.lra_folder_service.specs.Outcomes.{IsRefused, IsOfAddress};
 
 use crate::running::FolderOutcome;
 use lra_ids::Base;

@@ -13,7 +13,7 @@ use Rattle.lra_storage.specs.contracts.disk.FileSyncer as sync
 use Rattle.lra_sessions.proofs.session.OwnedSession.TheSendSync as session
 use Rattle.lra_office.specs.contracts.desk.Origin as origin
 use Rattle.lra_office.proofs.Crosses.{desk_send}
-use Rattle.lra_rolling.proofs.running.serve_audited.Goals as goal
+use Rattle.lra_folder_service.proofs.running.serve_audited.Goals as goal
 
 pub serve_on-requires-send-B : goal.serve_on-requires-send-B
 serve_on-requires-send-B g c κs within =

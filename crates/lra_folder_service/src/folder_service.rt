@@ -2,7 +2,7 @@
 
 ghost use Rattle.std.specs.Prelude.{◌≡◌, true, All, None, IfOk, IfErr};
 ghost use Rattle.lra_opening.specs.Places.{IsRead};
-ghost use Rattle.lra_rolling.specs.Outcomes.{HasSaid, IsSaid};
+ghost use Rattle.lra_folder_service.specs.Outcomes.{HasSaid, IsSaid};
 
 use crate::folder_driver::{FolderDriver, out_of_memory};
 use crate::folder_state::{FolderRole, FolderState, roles_of};

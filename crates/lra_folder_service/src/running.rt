@@ -3,7 +3,7 @@
 ghost use Rattle.std.specs.Prelude.{◌≡◌, None, IsFalse, IfOk, IfErr, IsErrAnd};
 ghost use Rattle.lra_ids.specs.Addresses.{is_base};
 ghost use Rattle.lra_ids.specs.Bases.{base_text};
-ghost use Rattle.lra_rolling.specs.Outcomes.{HasSaid, IsSaid, IsOfAddress};
+ghost use Rattle.lra_folder_service.specs.Outcomes.{HasSaid, IsSaid, IsOfAddress};
 
 use crate::folder_service::FolderService;
 use crate::operators_view::OperatorsContext;

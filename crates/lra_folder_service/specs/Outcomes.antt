@@ -6,8 +6,8 @@ use Rattle.lra_opening.specs.Ends.{serving_line, SaysAtMost}
 use Rattle.lra_journal_folder.specs.Refusals.{IsRefusedByName, IsOfOutput}
 use Rattle.lra_journal_folder.specs.declared.fault.RollingFault.{RollingFault}
 use Rattle.lra_journal_folder.specs.declared.fault.RollingFault.TheVariants.{Of, Here, Told}
-use Rattle.lra_rolling.specs.declared.running.FolderOutcome.{FolderOutcome}
-use Rattle.lra_rolling.specs.declared.running.FolderOutcome.TheVariants.{Unsound, Ended}
+use Rattle.lra_folder_service.specs.declared.running.FolderOutcome.{FolderOutcome}
+use Rattle.lra_folder_service.specs.declared.running.FolderOutcome.TheVariants.{Unsound, Ended}
 
 -- the output without a fault: the name of a journal that isn't sound and its audit's report, or, if the service has
 -- ended gently, just the line which reports that the address is served (this project's choice)

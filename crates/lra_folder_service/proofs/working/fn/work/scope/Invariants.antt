@@ -1,5 +1,5 @@
 use Rattle.std.specs.Prelude.{◌≡◌}
-use Rattle.lra_rolling.proofs.working.fn.work.scope.Given as goal
+use Rattle.lra_folder_service.proofs.working.fn.work.scope.Given as goal
 
 -- the loops that start threads write nothing
 abbrev pub invariant-loop-role : goal.invariant-loop-role

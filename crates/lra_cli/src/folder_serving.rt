@@ -4,13 +4,13 @@ use crate::access_configuration::AccessConfiguration;
 use crate::reasons::{FaultLog, Unlogged, fail, log_unsound};
 use crate::serving::{put_words, report_way};
 use lra_admission::KeyFiles;
+use lra_folder_service::{
+    FolderOptions, FolderOutcome, RollingFault, check_folder, rolling_line, serve_folder,
+};
 use lra_ids::Base;
 use lra_opening::Notifier;
 use lra_operators_server::OperatorsServer;
 use lra_options::Options;
-use lra_rolling::{
-    FolderOptions, FolderOutcome, RollingFault, check_folder, rolling_line, serve_folder,
-};
 use lra_server::{LoggingNotifier, ServiceInput};
 use lra_storage::Timed;
 use std::env::Env;
@@ -26,7 +26,7 @@ use std::time::Clock;
 
 /// Returns the status of a service over a folder that has ended, or couldn't start. Reports a fault. If a journal isn't
 /// sound, reports how to salvage it.
-fn settle_rolling<
+fn settle_folder<
     R: AllocGlobal + Files<File = File> + Net<Stream = TcpStream, Listener = TcpListener> + Eprint,
     H: Notifier,
     L: FaultLog,
@@ -54,7 +54,7 @@ fn settle_rolling<
 }
 
 /// Reports what would be served of a folder. The watcher reports how far journals have been read.
-pub(crate) fn check_rolling<
+pub(crate) fn check_folder_service<
     R: AllocGlobal
         + Files<File = File>
         + Net<Stream = TcpStream, Listener = TcpListener>
@@ -81,7 +81,7 @@ pub(crate) fn check_rolling<
         Ok(FolderOutcome::Ended) => report_words(rt, options),
         other => other,
     };
-    settle_rolling(rt, told, options, watcher, &Unlogged)
+    settle_folder(rt, told, options, watcher, &Unlogged)
 }
 
 /// Writes the values of the options that are texts, after the report of what would be served.
@@ -95,7 +95,7 @@ fn report_words<R: AllocGlobal + Print>(
 
 /// Serves a folder, and returns the program's status. The service ends once the input has ended, if there is one. The
 /// watcher reports how far journals have been read.
-pub(crate) fn serve_rolling<
+pub(crate) fn serve_folder_service<
     R: AllocGlobal
         + Files<File = File>
         + KeyFiles
@@ -142,7 +142,7 @@ pub(crate) fn serve_rolling<
         logging_notifier,
         &mut io::writer(rt),
     );
-    let status = settle_rolling(rt, outcome, options, watcher, logging_notifier);
+    let status = settle_folder(rt, outcome, options, watcher, logging_notifier);
     logging_notifier.log.close();
     status
 }

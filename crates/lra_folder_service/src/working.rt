@@ -5,7 +5,7 @@ ghost use Rattle.std.specs.Io.KnownBytes.{Appends};
 ghost use Rattle.std.specs.Thread.{IsSend, IsSync};
 ghost use Rattle.lra_opening.specs.Ends.{serving_line};
 ghost use Rattle.lra_journal_folder.specs.declared.fault.RollingFault.TheVariants.{Here};
-ghost use Rattle.lra_rolling.specs.Outcomes.{IsSaid};
+ghost use Rattle.lra_folder_service.specs.Outcomes.{IsSaid};
 
 use crate::folder_state::{FolderRole, FolderState};
 use crate::rotation_manager::RotationManager;

@@ -5,7 +5,7 @@ use Rattle.lra_opening.specs.Ends as served
 use Rattle.lra_opening.specs.declared.fault.ServeFault.{ServeFault}
 use Rattle.lra_opening.specs.declared.fault.ServeFault.TheVariants.{Run, File, Address}
 use Rattle.lra_journal_folder.specs.declared.fault.RollingFault.TheVariants.{Here}
-use Rattle.lra_rolling.specs.Outcomes.{IsSaid}
+use Rattle.lra_folder_service.specs.Outcomes.{IsSaid}
 
 -- it is at most the line of an address that is served, but where standard output can't be written
 pub at_fault : (address : List ℕ) (before after : Option (List ℕ)) (fault : ServeFault)
