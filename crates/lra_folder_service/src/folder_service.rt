@@ -4,6 +4,7 @@ ghost use Rattle.std.specs.Prelude.{◌≡◌, true, All, None, IfOk, IfErr};
 ghost use Rattle.lra_opening.specs.Places.{IsRead};
 ghost use Rattle.lra_folder_service.specs.Outcomes.{HasSaid, IsSaid};
 
+use crate::base_lines::{base_line, secret_line};
 use crate::folder_driver::{FolderDriver, out_of_memory};
 use crate::folder_state::{FolderRole, FolderState, roles_of};
 use crate::operators_view::OperatorsContext;
@@ -123,26 +124,6 @@ fn accept_queue_of<R: Net>(
         all.push(accept_queue)?;
     }
     Ok(all)
-}
-
-/// Returns the line that reports a new base of identifiers, and whether those of the old base are still read.
-fn base_line(alloc: Global, before: &str, base: &str, is_read: bool) -> Result<String, AllocError> {
-    let end = if is_read {
-        ""
-    } else {
-        ": those are unknown in a request's body unless --also-base names it"
-    };
-    format!(in alloc; "lra: identifiers began with {before}, and begin with {base} now{end}\n")
-}
-
-/// Returns that line without the bases, where the new base has a secret.
-fn secret_line(alloc: Global, is_read: bool) -> Result<String, AllocError> {
-    let end = if is_read {
-        ""
-    } else {
-        ": those of before are unknown in a request's body unless --also-base names what they began with"
-    };
-    format!(in alloc; "lra: identifiers begin otherwise than they did{end}\n")
 }
 
 /// Marks the members that operators have given up in the outcomes of their journals.

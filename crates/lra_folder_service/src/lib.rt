@@ -2,6 +2,7 @@
 //! it. Journals that are done are archived.
 #![tactic(auto)]
 
+mod base_lines;
 mod checking;
 mod folder_driver;
 mod folder_service;

@@ -149,7 +149,7 @@ fn serve_audited<
         storage,
     };
     service.report_others();
-    match audit_all(
+    let served = match audit_all(
         context.rt,
         found.folder,
         found.contents,
@@ -168,7 +168,9 @@ fn serve_audited<
         }
         Ok(Err(Unsound { status, path })) => Ok(FolderOutcome::Unsound { status, path }),
         Err(fault) => Err(fault),
-    }
+    };
+    drop(service);
+    served
 }
 
 impl<

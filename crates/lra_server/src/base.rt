@@ -77,7 +77,7 @@ pub fn site_at(alloc: Global, to: &str, base: Option<Base>) -> Result<ServiceSit
 }
 
 /// Binds a listener to a socket's host and port.
-pub fn bind<R: Net>(rt: &R, socket: &str) -> Result<R::Listener, ServeFault>
+pub(crate) fn bind<R: Net>(rt: &R, socket: &str) -> Result<R::Listener, ServeFault>
     ensures { IfErr result IsOfAddress }
 {
     TcpListener::bind(rt, socket).map_err(|_| ServeFault::Address)

@@ -20,7 +20,7 @@ mod toml_lines;
 pub use access_policy::{
     AccessPolicy, HandlerStack, RefusalLogger, dismiss, keys_trouble, receive,
 };
-pub use base::{ServiceSite, bind, site_at};
+pub use base::{ServiceSite, site_at};
 pub use bound_address::{BoundAddress, ServiceInput, bound_address_at, listener_at};
 pub use configuration_lines::{put_olders, put_settings};
 pub use descriptors::fit_descriptors;

@@ -15,7 +15,7 @@ use std::alloc::Global;
 use std::io::Write;
 
 /// Writes the number of entries of a sound journal, or that the journal is new.
-pub fn put_journal<W: Write>(
+fn put_journal<W: Write>(
     alloc: Global,
     opening: &Opening,
     writer: &mut W,

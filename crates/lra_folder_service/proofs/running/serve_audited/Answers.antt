@@ -15,8 +15,8 @@ use Rattle.lra_office.specs.contracts.desk.Origin as origin
 use Rattle.lra_office.proofs.Crosses.{desk_send}
 use Rattle.lra_folder_service.proofs.running.serve_audited.Goals as goal
 
-pub serve_on-requires-send-B : goal.serve_on-requires-send-B
-serve_on-requires-send-B g c κs within =
+pub serve_on-served-requires-send-B : goal.serve_on-served-requires-send-B
+serve_on-served-requires-send-B g c κs within =
     let rt = param 0 g.row.R in
     let ghosts = writer.ghosts rt disk.the_row append_handle.the_row sync.the_row g.R.Wait g.R.Wait-dict
     disk_disk.ghosts disk_disk.dict append_handle_write.ghosts disk_disk.dict disk_disk.dict disk_disk.dict in
