@@ -38,7 +38,8 @@ NUMBERS = (
 )
 # Options whose values are texts, and those of them that may be said any number of times.
 WORDS = (
-    "base", "also-base", "token", "operators", "operators-key", "key", "origin", "members", "log", "log-format", "fence"
+    *("base", "also-base", "token", "operators", "operators-key", "key", "origin", "members", "members-via"),
+    *("log", "log-format", "fence"),
 )
 LISTS = ("also-base", "origin", "members")
 NAMES = [name for name, *_ in NUMBERS] + ["stop-at-eof"]

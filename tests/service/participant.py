@@ -54,6 +54,9 @@ class Participant:
     """A service that answers each request as `answer` says: a code and a body; pieces of bytes, as they stand;
     or nothing."""
 
+    # What takes a connection.
+    handler = Handler
+
     def __init__(self, answer=lambda request: (200, b"")):
         self.answer = answer
         self.requests = []
@@ -61,7 +64,7 @@ class Participant:
         self.arrived = threading.Condition()
 
     def __enter__(self):
-        self.server = Server((service.HOST, 0), Handler)
+        self.server = Server((service.HOST, 0), self.handler)
         self.server.participant = self
         self.port = self.server.server_address[1]
         self.thread = threading.Thread(target=self.server.serve_forever, args=(0.02,), daemon=True)

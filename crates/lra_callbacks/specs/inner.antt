@@ -5,3 +5,4 @@ pub mod Quota
 pub mod Replies
 pub mod Resting
 pub mod SilentMembers
+pub mod Targets

@@ -3,9 +3,7 @@
 ghost use Rattle.std.specs.Global.{Global};
 ghost use Rattle.std.specs.Prelude.{◌≡◌, Some, IfOk, IfSome, OnOk, IsTrue, String, option_map, string_bytes};
 ghost use Rattle.std.specs.Option.{ForSome};
-ghost use Rattle.std.specs.Net.Socket.{socket_ip, socket_port};
-ghost use Rattle.lra_rules.specs.Texts.{host_in};
-ghost use Rattle.lra_rules.specs.Rules.{let_address};
+ghost use Rattle.lra_callbacks.specs.inner.Targets.{is_let};
 ghost use Rattle.lra_courier.specs.Sockets.{socket_text};
 ghost use Rattle.lra_callbacks.specs.Outcomes.{MayCome};
 ghost use Rattle.lra_callbacks.specs.inner.Attempts.{outcome_of};
@@ -151,12 +149,13 @@ impl<G: SyncGroup> Call<G> {
         self.began = now;
     }
 
-    /// Begins to connect to an address of its host if the rules allow the address. Returns whether it could.
+    /// Begins to connect to an address of its host, or to the proxy, if the rules allow that. Returns whether it could.
     pub(crate) fn connect<R: Net>(
         &mut self,
         rt: &R,
         registry: &Registry,
         rules: &Rules,
+        is_proxied: bool,
         key: usize,
         to: Target<'_>,
     ) -> bool
@@ -164,7 +163,7 @@ impl<G: SyncGroup> Call<G> {
     {
         self.tried = self.tried.saturating_add(1);
         self.is_connected = false;
-        let mut stream = match dial(rt, rules, to) {
+        let mut stream = match dial(rt, rules, is_proxied, to) {
             Ok(stream) => stream,
             Err(end) => {
                 self.end = end;
@@ -244,13 +243,24 @@ impl<G: SyncGroup> Call<G> {
     }
 }
 
-/// Begins to connect to a target if the rules allow it. Returns the callback's end otherwise.
-fn dial<R: Net>(rt: &R, rules: &Rules, to: Target<'_>) -> Result<TcpStream, End>
-    ensures { OnOk result
-        (IsTrue (let_address rules.now (host_in to.entry.socket.now) (socket_ip to.entry.address)
-        (socket_port to.entry.address))) }
+/// Returns whether the rules allow a callback to a target: at the address that its host resolves to; or by the proxy,
+/// as far as its host and port are written, since the proxy resolves them.
+fn is_let(rules: &Rules, is_proxied: bool, to: Target<'_>) -> bool
+    ensures { result ≡ is_let rules.now is_proxied to.entry.socket.now to.entry.address }
 {
-    if !rules.let_socket(to.socket.as_bytes(), to.address) {
+    let socket = to.socket.as_bytes();
+    if is_proxied {
+        rules.let_written(socket)
+    } else {
+        rules.let_socket(socket, to.address)
+    }
+}
+
+/// Begins to connect to a target if the rules allow it. Returns the callback's end otherwise.
+fn dial<R: Net>(rt: &R, rules: &Rules, is_proxied: bool, to: Target<'_>) -> Result<TcpStream, End>
+    ensures { OnOk result (IsTrue (is_let rules.now is_proxied to.entry.socket.now to.entry.address)) }
+{
+    if !is_let(rules, is_proxied, to) {
         return Err(End::NotAllowed);
     }
     match TcpStream::connect(rt, to.address) {

@@ -373,6 +373,7 @@ impl<'a, R: Wait + Net + time::Clock, G: SyncGroup> Callbacks<'a, R, G> {
                 self.rt,
                 self.socket_set.poll.registry(),
                 self.rules,
+                self.names.is_proxied(),
                 key,
                 to,
             ),

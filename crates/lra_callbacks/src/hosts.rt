@@ -289,19 +289,12 @@ enum Known {
 }
 
 impl Host {
-    /// Makes a host. An address that stands in numbers is valid for ever.
+    /// Makes a host, whose addresses aren't known.
     fn new(alloc: Global, socket: String) -> Host {
-        let mut addresses = Vec::new(alloc);
-        let mut until = 0;
-        if let Ok(address) = socket.as_str().parse::<SocketAddr>() {
-            if addresses.push(address).is_ok() {
-                until = u64::MAX;
-            }
-        }
         Host {
             socket,
-            addresses,
-            until,
+            addresses: Vec::new(alloc),
+            until: 0,
             deadline: 0,
             permits: 0,
             open: 0,

@@ -10,6 +10,7 @@ use lra_server::{AccessPolicy, keys_trouble};
 use lra_storage::{Fence, Fenced};
 use std::alloc::{AllocError, Global};
 use std::fs::File;
+use std::net::SocketAddr;
 use std::rt::Files;
 use std::sync::Arc;
 
@@ -35,6 +36,8 @@ pub(crate) struct PolicyParts {
     rules: Rules,
     /// Limit in milliseconds of starts that give none, or 0.
     default_limit: u64,
+    /// Address of the proxy by which members are called, if they are.
+    members_via: Option<SocketAddr>,
     fence: Option<Arc<Fence>>,
 }
 
@@ -56,6 +59,7 @@ impl PolicyParts {
             names: &self.names,
             rules: &self.rules,
             default_limit: self.default_limit,
+            members_via: self.members_via,
         }
     }
 
@@ -148,6 +152,17 @@ fn rules_of(alloc: Global, said: &RawOptions) -> Result<Rules, OptionsFault> {
     Ok(Rules::new(rules))
 }
 
+/// Returns the address of the proxy by which members are called, if the options name it.
+fn members_via_of(alloc: Global, said: &RawOptions) -> Result<Option<SocketAddr>, OptionsFault> {
+    let Some(text) = said.text(Word::MembersVia) else {
+        return Ok(None);
+    };
+    match text.parse::<SocketAddr>() {
+        Ok(address) if address.port() != 0 => Ok(Some(address)),
+        _ => Err(wrong(format!(in alloc; "--members-via: no IP address and port: {text}"))),
+    }
+}
+
 /// Returns whether a text may be the last part of a base, and is long enough that nobody guesses it.
 fn is_token(text: &str) -> bool {
     let is_plain = text.as_bytes().iter().all(|byte| byte.is_ascii_alphanumeric()
@@ -236,6 +251,7 @@ pub(crate) fn access_configuration_of<R: AllocGlobal + Files<File = File> + KeyF
             keys: keys_of(rt, &options.said)?,
             names: names_of(alloc, &options.said)?,
             rules: rules_of(alloc, &options.said)?,
+            members_via: members_via_of(alloc, &options.said)?,
             default_limit: options.settings.default_limit_ms,
             fence: fence_of(rt, &options.said)?,
         },

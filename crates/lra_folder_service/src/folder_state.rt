@@ -168,7 +168,7 @@ impl<'s, 'a: 's, R: Wait, H, B> FolderState<'s, 'a, R, H, B> {
             answering: AtomicU64::new(workers as u64),
             workers: workers as u64,
             wake_relay,
-            callback_settings: CallbackSettings::new(alloc, settings, 1),
+            callback_settings: CallbackSettings::new(alloc, settings, 1, access_policy.members_via),
             operators_context,
         }
     }

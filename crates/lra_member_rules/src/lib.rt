@@ -6,4 +6,4 @@ mod laws;
 mod member_rules_filter;
 
 pub use laws::hosts_are_those_of_sockets;
-pub use member_rules_filter::MemberRulesFilter;
+pub use member_rules_filter::{MemberRulesFilter, is_join};

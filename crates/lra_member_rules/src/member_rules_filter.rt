@@ -20,7 +20,7 @@ pub struct MemberRulesFilter<'r, A> {
 }
 
 /// Returns whether a request asks to join.
-fn is_join(request: &RoutedRequest<'_>) -> bool
+pub fn is_join(request: &RoutedRequest<'_>) -> bool
     ensures { result ≡ spec.is_join request.now }
 {
     matches!(request.operation(), Ok(Operation::Join))

@@ -21,6 +21,8 @@ pub enum Word {
     Origin,
     /// A rule for the hosts and ports where members may be.
     Members,
+    /// The address of the proxy by which members are called.
+    MembersVia,
     /// The level from which on events are logged.
     Log,
     /// Format in which events are logged.
@@ -31,7 +33,7 @@ pub enum Word {
 
 impl Word {
     /// All these options, in the order of the help.
-    pub const ALL: [Word; 11] = [
+    pub const ALL: [Word; 12] = [
         Word::Base,
         Word::AlsoBase,
         Word::Token,
@@ -40,6 +42,7 @@ impl Word {
         Word::Key,
         Word::Origin,
         Word::Members,
+        Word::MembersVia,
         Word::Log,
         Word::LogFormat,
         Word::Fence,
@@ -56,6 +59,7 @@ impl Word {
             Word::Key => "key",
             Word::Origin => "origin",
             Word::Members => "members",
+            Word::MembersVia => "members-via",
             Word::Log => "log",
             Word::LogFormat => "log-format",
             Word::Fence => "fence",
@@ -75,6 +79,7 @@ impl Word {
             Word::Operators => "ADDRESS",
             Word::Origin => "NAME",
             Word::Members => "RULE",
+            Word::MembersVia => "IP:PORT",
             Word::Log => "LEVEL",
             Word::LogFormat => "FORMAT",
         }
@@ -100,6 +105,9 @@ impl Word {
             Word::Members => {
                 "Where members may be: a host, .suffix, address or network, with a port or without; \
                  any number of them [anywhere]"
+            }
+            Word::MembersVia => {
+                "The proxy by which members are called; joins may then name https addresses [none]"
             }
             Word::Log =>
                 "Events from this level on go to standard error: error, warn, info or debug [none]",

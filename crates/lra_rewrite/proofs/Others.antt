@@ -152,19 +152,28 @@ other_some base olders key body d more text P is goes e h =
 -- ---- requests
 
 -- a copy of a request with the body that was written
-pub parts : (own made : Request) (body : List ℕ) (d : Data) (o : Option Members) (f : Members → Members)
-    → made ≡ record own { body = body } → IsWritten body d → IfSome o (λ ms. as_object d ≡ Some (f ms))
+pub parts : (own made : Request) (body : List ℕ) (d : Data) → made ≡ record own { body = body } → IsWritten body d
+    → IfSome (as_object d) (λ ms. MeansParts own.target (Some ms) own made)
+parts own made body d is written = at (as_object d) refl
+  where
+    at : (o : Option Members) → as_object d ≡ o → IfSome o (λ ms. MeansParts own.target (Some ms) own made)
+    at None e = tt
+    at (Some ms) e =
+        subst (λ (r : Request). MeansParts own.target (Some ms) own r) (sym is) (record {
+          method = refl;
+          target = refl;
+          minor = refl;
+          close = refl;
+          fields = refl;
+          body = written.0 ∙ e;
+        })
+
+-- a request with the members that are made of others
+pub made_of : (own made : Request) (o p : Option Members) (f : Members → Members) → IfSome o (λ ms. p ≡ Some (f ms))
+    → IfSome p (λ ms. MeansParts own.target (Some ms) own made)
     → IfSome o (λ ms. MeansParts own.target (Some (f ms)) own made)
-parts own made body d None f is written h = tt
-parts own made body d (Some ms) f is written h =
-    subst (λ (r : Request). MeansParts own.target (Some (f ms)) own r) (sym is) (record {
-      method = refl;
-      target = refl;
-      minor = refl;
-      close = refl;
-      fields = refl;
-      body = written.0 ∙ h;
-    })
+made_of own made None p f is h = tt
+made_of own made (Some ms) p f is h = rw is at h
 
 pub made_is : (own : Request) (other : Meant) (body : List ℕ) → LacksMemory own
     → request_of other.request ≡ record own { body = body } → IsWritten body (view other.value) → IsMade own other

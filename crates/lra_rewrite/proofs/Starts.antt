@@ -10,7 +10,7 @@ use Rattle.lra_front.specs.declared.operation.Operation.TheVariants as operation
 use Rattle.lra_front.specs.declared.api_error.ApiError.{ApiError}
 use Rattle.lra_front.specs.ApiRequests.{LacksMemory}
 use Rattle.lra_front.specs.Bodies.{object_in}
-use Rattle.lra_rewrite.specs.Limits.{limited_members, limited_at, limited_body, MeansLimited, may_mean, starts}
+use Rattle.lra_rewrite.specs.Limits.{limited_members, limited_at, may_mean, starts}
 use Rattle.lra_rewrite.specs.Requests.{MeansParts}
 use Rattle.lra_rewrite.specs.inner.Limited.{lacks_limit}
 use Rattle.lra_rewrite.proofs.Others.{itself}
@@ -33,20 +33,13 @@ start_reads limit own e = (operation.Start, start_is _ (and_parts _ _ e).1, refl
 
 -- ---- requests that mean themselves
 
-pub means_itself : (limit : ℕ) (own : Request) → may_mean limit own ≡ false → MeansLimited limit own own
-means_itself limit own e = itself own (limited_body limit own) (rw e refl)
-
-start_itself : (limit : ℕ) (own : Request) → may_mean limit own ≡ true → limited_at limit own.body ≡ None
-    → MeansLimited limit own own
-start_itself limit own e is = itself own (limited_body limit own) (rw e is)
-
 unread_at : (limit : ℕ) (body : List ℕ) → object_in body ≡ None → limited_at limit body ≡ None
 unfolding limited_at
 unread_at limit body e = rw e refl
 
-pub unread_limited : (limit : ℕ) (own : Request) → may_mean limit own ≡ true → object_in own.body ≡ None
-    → MeansLimited limit own own
-unread_limited limit own e is = start_itself limit own e (unread_at limit own.body is)
+pub unread_limited : (limit : ℕ) (own : Request) → object_in own.body ≡ None
+    → MeansParts own.target (limited_at limit own.body) own own
+unread_limited limit own is = itself own (limited_at limit own.body) (unread_at limit own.body is)
 
 given : (limit : ℕ) (d : Data) → lacks_limit d ≡ false → option_and_then (limited_members limit) (as_object d) ≡ None
 given limit null e = refl
@@ -61,9 +54,9 @@ given_at : (limit : ℕ) (body : List ℕ) (d : Data) → object_in body ≡ as_
 unfolding limited_at
 given_at limit body d is e = rw is (given limit d e)
 
-pub given_limited : (limit : ℕ) (own : Request) (d : Data) → may_mean limit own ≡ true
-    → object_in own.body ≡ as_object d → lacks_limit d ≡ false → MeansLimited limit own own
-given_limited limit own d e is has = start_itself limit own e (given_at limit own.body d is has)
+pub given_limited : (limit : ℕ) (own : Request) (d : Data) → object_in own.body ≡ as_object d
+    → lacks_limit d ≡ false → MeansParts own.target (limited_at limit own.body) own own
+given_limited limit own d is has = itself own (limited_at limit own.body) (given_at limit own.body d is has)
 
 -- ---- starts that mean the default limit
 
@@ -83,9 +76,9 @@ lacking_at : (limit : ℕ) (body : List ℕ) (d more : Data) (P : Option Members
 unfolding limited_at
 lacking_at limit body d more P is e are h = rw is (lacking limit d more P e are h)
 
-pub lacking_limited : (limit : ℕ) (own meant : Request) (d more : Data) → may_mean limit own ≡ true
-    → object_in own.body ≡ as_object d → lacks_limit d ≡ true → more ≡ number (unsigned limit)
+pub lacking_limited : (limit : ℕ) (own meant : Request) (d more : Data) → object_in own.body ≡ as_object d
+    → lacks_limit d ≡ true → more ≡ number (unsigned limit)
     → IfSome (as_object d) (λ ms. MeansParts own.target (Some (put (codes "limit") more ms)) own meant)
-    → MeansLimited limit own meant
-lacking_limited limit own meant d more may is e are h =
-    rw may (lacking_at limit own.body d more (λ o. MeansParts own.target o own meant) is e are h)
+    → MeansParts own.target (limited_at limit own.body) own meant
+lacking_limited limit own meant d more is e are h =
+    lacking_at limit own.body d more (λ o. MeansParts own.target o own meant) is e are h

@@ -6,5 +6,6 @@ pub mod Requests
 pub mod Asked
 pub mod Serving
 pub mod Limits
-pub mod Limiting
+pub mod Https
+pub mod Settling
 pub mod Ordered

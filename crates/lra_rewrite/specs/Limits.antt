@@ -1,6 +1,6 @@
 -- Starts that give no limit, and mean the default limit.
-use Rattle.std.specs.Prelude.{ℕ, Bool, true, false, not, ◌&&◌, ◌==◌, is_none, if◌then◌else◌, List, codes, Option, None}
-use Rattle.std.specs.Prelude.{Result, Ok, option_and_then}
+use Rattle.std.specs.Prelude.{ℕ, Bool, true, false, not, ◌&&◌, ◌==◌, is_none, List, codes, Option, Result, Ok}
+use Rattle.std.specs.Prelude.{option_and_then}
 use Rattle.serde_json.specs.Data.{Members, number, unsigned, put}
 use Rattle.serde_json.specs.Find.{get_member}
 use Rattle.lra_model.specs.Words.{when}
@@ -10,7 +10,6 @@ use Rattle.lra_front.specs.declared.operation.Operation.TheVariants as operation
 use Rattle.lra_front.specs.declared.api_error.ApiError.{ApiError}
 use Rattle.lra_front.specs.Routes.{operation_of}
 use Rattle.lra_front.specs.Bodies.{object_in}
-use Rattle.lra_rewrite.specs.Requests.{MeansParts}
 
 -- an operation is a start
 abbrev pub starts : Result Operation ApiError → Bool
@@ -30,11 +29,3 @@ limited_members limit ms = when (is_none (get_member (codes "limit") ms))
 -- the members that the body of a start means, if those are others: it is an object (RFC 8259, section 4), or empty
 unfoldable pub limited_at : ℕ → List ℕ → Option Members
 limited_at limit body = option_and_then (limited_members limit) (object_in body)
-
--- the members that the body of a request means, if those are others
-abbrev pub limited_body : ℕ → Request → Option Members
-limited_body limit request = if may_mean limit request then limited_at limit request.body else None
-
--- the request that a request means under a default limit: the same, but for the limit in the body of a start
-abbrev pub MeansLimited : ℕ → Request → Request → Type 0
-MeansLimited limit request meant = MeansParts request.target (limited_body limit request) request meant

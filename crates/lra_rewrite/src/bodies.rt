@@ -10,7 +10,7 @@ ghost use Rattle.lra_rewrite.specs.Bodies as spec;
 ghost use Rattle.lra_rewrite.specs.Requests.{MeansParts};
 ghost use Rattle.lra_rewrite.specs.inner.Made.{IsMade, MeansOther, meant_by};
 
-use crate::requests::{Meant, meant_with};
+use crate::requests::{Meant, meant_with, text_under};
 use crate::texts::other_text;
 use lra_front::RoutedRequest;
 use lra_ids::Base;
@@ -30,11 +30,8 @@ fn other_under(
         ≡ option_and_then (texts.other_text base.now olders.now)
         (option_and_then as_str (get key.now (view value.now)))) }
 {
-    match value.get(key) {
-        Some(member) => match member.as_str() {
-            Some(text) => other_text(alloc, base, olders, text),
-            None => Ok(None),
-        },
+    match text_under(key, value) {
+        Some(text) => other_text(alloc, base, olders, text),
         None => Ok(None),
     }
 }

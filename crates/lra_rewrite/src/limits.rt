@@ -1,8 +1,9 @@
 //! Starts that give no limit, and mean the default limit.
 
-ghost use Rattle.std.specs.Prelude.{◌≡◌, IsTrue, IfOk, IfSome, OnErr};
+ghost use Rattle.std.specs.Prelude.{◌≡◌, IsTrue, IfOk, IfSome};
 ghost use Rattle.serde_json.specs.View.{view};
 ghost use Rattle.lra_rewrite.specs.Limits as spec;
+ghost use Rattle.lra_rewrite.specs.Requests.{MeansParts};
 ghost use Rattle.lra_rewrite.specs.inner.Limited.{lacks_limit};
 ghost use Rattle.lra_rewrite.specs.inner.Made.{IsMade, meant_by};
 
@@ -13,7 +14,7 @@ use serde_json::Value;
 use std::alloc::Global;
 
 /// Returns whether a request is a start, and there is a default limit.
-fn may_mean(limit: u64, request: &RoutedRequest<'_>) -> bool
+pub(crate) fn may_mean(limit: u64, request: &RoutedRequest<'_>) -> bool
     ensures { result ≡ spec.may_mean limit request.now }
 {
     limit != 0 && matches!(request.operation(), Ok(Operation::Start))
@@ -26,25 +27,23 @@ fn lacks_limit(value: &Value) -> bool
     value.is_object() && value.get("limit").is_none()
 }
 
-/// Returns the request that a request means under a default limit, if that isn't itself. If it is, nothing is copied.
+/// Returns the start that a start means under a default limit, if that isn't itself.
 pub(crate) fn limited_request(
     alloc: Global,
     limit: u64,
-    request: &RoutedRequest<'_>,
+    start: &RoutedRequest<'_>,
 ) -> Result<Option<Meant>, Memory>
-    ensures ok { IfOk result (λ other. spec.MeansLimited limit request.now (meant_by request.now other)) }
-    ensures made { IfOk result (λ other. IfSome other (IsMade request.now)) }
-    ensures err { OnErr result (IsTrue (spec.may_mean limit request.now)) }
+    requires { IsTrue (spec.may_mean limit start.now) }
+    ensures ok { IfOk result (λ other. MeansParts start.now.target (spec.limited_at limit start.now.body) start.now
+        (meant_by start.now other)) }
+    ensures made { IfOk result (λ other. IfSome other (IsMade start.now)) }
 {
-    if !may_mean(limit, request) {
-        return Ok(None);
-    }
-    let Some(value) = request.body()? else {
+    let Some(value) = start.body()? else {
         return Ok(None);
     };
     if !lacks_limit(value) {
         return Ok(None);
     }
-    let meant = meant_with(alloc, request, value, "limit", Value::from(limit))?;
+    let meant = meant_with(alloc, start, value, "limit", Value::from(limit))?;
     Ok(Some(meant))
 }

@@ -1,8 +1,19 @@
 //! The request that a request means.
 
-ghost use Rattle.std.specs.Prelude.{◌≡◌, ◌≤◌, option_map, string_bytes, IfOk, IfSome, IsSome, OnErr, Some};
+ghost use Rattle.std.specs.Prelude.{
+  ◌≡◌,
+  ◌≤◌,
+  option_map,
+  option_and_then,
+  string_bytes,
+  IfOk,
+  IfSome,
+  IsSome,
+  OnErr,
+  Some,
+};
 ghost use Rattle.serde_json.specs.Data.{depth, put};
-ghost use Rattle.serde_json.specs.Find.{as_object};
+ghost use Rattle.serde_json.specs.Find.{as_object, as_str, get};
 ghost use Rattle.serde_json.specs.Read.{max_depth};
 ghost use Rattle.serde_json.specs.View.{view};
 ghost use Rattle.lra_wire.specs.Request.{request_of};
@@ -69,16 +80,27 @@ pub(crate) fn moved_request(
     }
 }
 
-/// Copies a value, and puts a text or a number under a key of the copy if it is an object.
-fn value_with(alloc: Global, value: &Value, key: &str, member: Value) -> Result<Value, Memory>
-    requires nests { depth (view value.now) ≤ max_depth }
+/// Returns the text under a key of a value, if there is one.
+pub(crate) fn text_under<'v>(key: &str, value: &'v Value) -> Option<&'v str>
+    ensures { option_map (λ text. text.now) result ≡ option_and_then as_str (get key.now (view value.now)) }
+{
+    value.get(key)?.as_str()
+}
+
+/// Puts a text or a number under a key of a value, if the value is an object.
+pub(crate) fn put_under(
+    alloc: Global,
+    value: Value,
+    key: &str,
+    member: Value,
+) -> Result<Value, Memory>
+    requires nests { depth (view value) ≤ max_depth }
     requires flat { depth (view member) ≡ 0 }
-    ensures put { IfOk result (λ made. IfSome (as_object (view value.now)) (λ ms. as_object (view made)
+    ensures put { IfOk result (λ made. IfSome (as_object (view value)) (λ ms. as_object (view made)
         ≡ Some (put key.now (view member) ms))) }
     ensures nests { IfOk result (λ made. depth (view made) ≤ max_depth) }
 {
-    let copied = value.clone()?;
-    match copied {
+    match value {
         Value::Object(members) => {
             let mut members = members;
             members.insert(String::from_str(alloc, key)?, member)?;
@@ -86,6 +108,23 @@ fn value_with(alloc: Global, value: &Value, key: &str, member: Value) -> Result<
         }
         other => Ok(other),
     }
+}
+
+/// Returns the request with a body that is written of a value.
+pub(crate) fn meant_of(
+    alloc: Global,
+    own: &RoutedRequest<'_>,
+    value: Value,
+) -> Result<Meant, Memory>
+    requires reads { LacksMemory own.now }
+    requires nests { depth (view value) ≤ max_depth }
+    ensures ok { IfOk result (λ meant. IfSome (as_object (view value)) (λ ms.
+        spec.MeansParts own.now.target (Some ms) own.now (request_of meant.request))) }
+    ensures made { IfOk result (IsMade own.now) }
+{
+    let text = value.to_string(alloc)?;
+    let request = with_body(alloc, own.request(), text)?;
+    Ok(Meant { request, value })
 }
 
 /// Returns the request with a text or a number put under a key of its body, of which this is the value.
@@ -103,8 +142,8 @@ pub(crate) fn meant_with(
         spec.MeansParts own.now.target (Some (put key.now (view member) ms)) own.now (request_of meant.request))) }
     ensures made { IfOk result (IsMade own.now) }
 {
-    let value = value_with(alloc, body, key, member)?;
-    let text = value.to_string(alloc)?;
-    let request = with_body(alloc, own.request(), text)?;
-    Ok(Meant { request, value })
+    let copied = body.clone()?;
+    let value = put_under(alloc, copied, key, member)?;
+    let meant = meant_of(alloc, own, value)?;
+    Ok(meant)
 }

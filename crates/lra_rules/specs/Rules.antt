@@ -104,3 +104,9 @@ let_address rules host ip port = length rules == 0 || some_names rules (inside i
 unfoldable pub let_host : List (List ℕ) → List ℕ → ℕ → Bool
 let_host rules host port = option_map_or (λ ip. let_address rules host ip port) (ip_of host)
     (length rules == 0 || some_lets rules host port)
+
+-- the same of a host and port as they are written, if the port is a number
+unfoldable pub let_written : List (List ℕ) → List ℕ → Bool
+let_written rules socket =
+    option_map_or (λ parts. option_map_or (let_host rules parts.0) (number 65535 parts.1) false) (at_last 58 socket)
+    false

@@ -7,7 +7,7 @@ ghost use Rattle.lra_rules.specs.Rules as spec;
 
 use crate::network::{inside, ip_in, is_special};
 use crate::rule::Rule;
-use crate::texts::host_in;
+use crate::texts::{at_last, host_in, number};
 use std::alloc::Global;
 use std::marker::Model;
 use std::net::{IpAddr, SocketAddr};
@@ -98,6 +98,20 @@ impl Rules {
         match ip_in(host) {
             Some(ip) => self.let_address(host, ip, port),
             None => self.is_empty() || self.some_lets(host, port),
+        }
+    }
+
+    /// Returns whether a host and port may be a member's, as far as their text shows.
+    #[tactic(auto, unfolding(crate::specs::Rules::let_written))]
+    pub fn let_written(&self, socket: &[u8]) -> bool
+        ensures { result ≡ spec.let_written self.now socket.now }
+    {
+        let Some((host, port)) = at_last(socket, b':') else {
+            return false;
+        };
+        match number(port, u16::MAX) {
+            Some(port) => self.let_host(host, port),
+            None => false,
         }
     }
 

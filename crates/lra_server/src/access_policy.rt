@@ -12,10 +12,11 @@ use lra_logs::{Event, EventSink, Port};
 use lra_member_rules::MemberRulesFilter;
 use lra_opening::Notifier;
 use lra_operators_server::{CountingHandler, Tallies};
-use lra_rewrite::{DefaultLimitFilter, RewriteFilter, copy_bases};
+use lra_rewrite::{BodyFilter, RewriteFilter, copy_bases};
 use lra_rules::Rules;
 use lra_steps::Handler;
 use std::alloc::Global;
+use std::net::SocketAddr;
 use std::sync::Wait;
 use std::time::Clock;
 
@@ -34,6 +35,8 @@ pub struct AccessPolicy<'a> {
     pub rules: &'a Rules,
     /// Limit in milliseconds of starts that give none, or 0.
     pub default_limit: u64,
+    /// Address of the proxy by which members are called, if they are.
+    pub members_via: Option<SocketAddr>,
 }
 
 impl<'a> AccessPolicy<'a> {
@@ -47,6 +50,7 @@ impl<'a> AccessPolicy<'a> {
             names: &[],
             rules,
             default_limit: 0,
+            members_via: None,
         }
     }
 }
@@ -63,7 +67,7 @@ pub struct RefusalLogger<'a, H> {
 
 /// Handler within the filters of an access policy, with a count of the requests that are let in.
 pub type HandlerStack<'a, R, H, A> = AuthenticationFilter<
-    RewriteFilter<CountingHandler<'a, DefaultLimitFilter<MemberRulesFilter<'a, A>>, R>>,
+    RewriteFilter<CountingHandler<'a, BodyFilter<MemberRulesFilter<'a, A>>, R>>,
     KeyCache<'a, R, RefusalLogger<'a, H>>,
     RefusalLogger<'a, H>,
 >;
@@ -146,11 +150,12 @@ pub fn receive<'a, R: Wait + Clock + KeyFiles, H: Notifier + EventSink, A: Handl
         return Err(inner);
     };
     let member_rules_filter = MemberRulesFilter::new(inner, access_policy.rules);
-    let default_limit_filter = DefaultLimitFilter::new(
+    let body_filter = BodyFilter::new(
         member_rules_filter,
         access_policy.default_limit,
+        access_policy.members_via.is_some(),
     );
-    let counted = CountingHandler::new(default_limit_filter, rt, refusal_logger.tallies);
+    let counted = CountingHandler::new(body_filter, rt, refusal_logger.tallies);
     let rewrite_filter = RewriteFilter::new(counted, olders, access_policy.is_strict);
     let told = RefusalLogger::new(
         alloc,

@@ -9,6 +9,7 @@ use lra_commands::Limits;
 use lra_event_loop::Times;
 use lra_settings::Settings;
 use std::alloc::Global;
+use std::net::SocketAddr;
 
 /// Returns so many seconds in milliseconds.
 fn in_ms(seconds: u64) -> u64 {
@@ -40,14 +41,20 @@ fn fitted(number: u64) -> u32 {
 }
 
 impl CallbackSettings {
-    /// Returns the shared state of so many callback workers, by some settings: nothing goes out yet.
-    pub fn new(alloc: Global, settings: &Settings, workers: usize) -> CallbackSettings {
+    /// Returns the shared state of so many callback workers, by some settings: nothing goes out yet. Members are called
+    /// by the proxy at that address, if there is one.
+    pub fn new(
+        alloc: Global,
+        settings: &Settings,
+        workers: usize,
+        proxy: Option<SocketAddr>,
+    ) -> CallbackSettings {
         let time_outs = TimeOuts {
             connect: in_ms(settings.connect_seconds),
             reply: in_ms(settings.callback_seconds),
         };
         CallbackSettings {
-            names: SharedDnsCache::new(alloc),
+            names: SharedDnsCache::new(alloc, proxy),
             quota: Quota::new(
                 alloc,
                 fitted(settings.callbacks),

@@ -128,7 +128,12 @@ impl<'a, R: Wait, H> ServiceState<'a, R, H> {
             answering: AtomicU64::new(workers as u64),
             working: AtomicU64::new(0),
             callback_workers: AtomicU64::new(workers as u64),
-            callback_settings: CallbackSettings::new(alloc, settings, workers),
+            callback_settings: CallbackSettings::new(
+                alloc,
+                settings,
+                workers,
+                access_policy.members_via,
+            ),
             worker_slots,
             wakers,
             operators_server,

@@ -6,7 +6,7 @@ use Rattle.lra_steps.specs.declared.handler.Answered.{Answered}
 use Rattle.lra_rewrite.specs.Asked.{AnswersSome, LacksSome}
 use Rattle.lra_rewrite.specs.Serving.{Served, Answers, Denies, Refuses, Responds, keeps_out}
 use Rattle.lra_rewrite.specs.Requests.{Means, LacksMemory}
-use Rattle.lra_rewrite.specs.Limiting.{Bounded, RespondsBounded}
+use Rattle.lra_rewrite.specs.Settling.{Settled, RespondsSettled}
 
 module _ {S : Type 0} (base_of : S → List ℕ) (responds : S → ℕ → Request → Answered → S → Type 0)
     (stays : (before after : S) (moment : ℕ) (request : Request) (answered : Answered)
@@ -32,7 +32,7 @@ module _ {S : Type 0} (base_of : S → List ℕ) (responds : S → ℕ → Reque
       → Responds base_of responds before moment request answered after → base_of after.inner ≡ base_of before.inner
   base_stays before after moment request answered h = inner_stays before after.inner moment request answered h.inner
 
-  pub bounded_stays : (before after : Bounded S) (moment : ℕ) (request : Request) (answered : Answered)
-      → RespondsBounded responds before moment request answered after → base_of after.inner ≡ base_of before.inner
-  bounded_stays before after moment request answered h =
+  pub settled_stays : (before after : Settled S) (moment : ℕ) (request : Request) (answered : Answered)
+      → RespondsSettled responds before moment request answered after → base_of after.inner ≡ base_of before.inner
+  settled_stays before after moment request answered h =
       asked_stays _ _ before.inner after.inner moment answered h.inner

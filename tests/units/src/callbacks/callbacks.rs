@@ -196,7 +196,7 @@ pub fn carry_under<R>(
 where
     R: Wait + Clock + Threads + Net<Listener = TcpListener, Stream = TcpStream> + Sync,
 {
-    let names = SharedDnsCache::new(alloc);
+    let names = SharedDnsCache::new(alloc, None);
     let wakers: [Waker; 0] = [];
     let (count, _) = join(
         rt,
@@ -385,7 +385,7 @@ fn a_member_answers_too_late(rt: HostRuntime) {
 fn rested<R: Wait + Net + Clock>(rt: &R, alloc: Global, millis: Option<u64>) -> Option<Duration> {
     let (poll, _waker) = waker(rt).ok()?;
     let group = Ready::up_to(u64::MAX)?;
-    let names = SharedDnsCache::new(alloc);
+    let names = SharedDnsCache::new(alloc, None);
     let rules = Rules::none(alloc);
     let (under_way, least_pause) = (AtomicU64::new(0), AtomicU64::new(0));
     let quota = Quota::new(alloc, 1_024, 64);

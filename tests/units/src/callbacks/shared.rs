@@ -44,7 +44,7 @@ impl Ground {
         let wakers = Arc::new(alloc, wakers).ok()?;
         Some(Ground {
             group: Ready::up_to(u64::MAX)?,
-            names: SharedDnsCache::new(alloc),
+            names: SharedDnsCache::new(alloc, None),
             rules: Rules::none(alloc),
             quota: Quota::new(alloc, most, each),
             wakers,

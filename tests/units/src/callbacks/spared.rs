@@ -68,7 +68,7 @@ fn passed_again<R: Clock, C: CallbackPool>(
 fn asked_twice<R: Wait + Net + Clock>(rt: &R, alloc: Global, twice: Twice) -> Option<Duration> {
     let (poll, _waker) = waker(rt).ok()?;
     let group = Ready::up_to(u64::MAX)?;
-    let names = SharedDnsCache::new(alloc);
+    let names = SharedDnsCache::new(alloc, None);
     let rules = Rules::none(alloc);
     let (under_way, least_pause) = (AtomicU64::new(0), AtomicU64::new(twice.least_pause));
     let quota = Quota::new(alloc, 1_024, 64);

@@ -53,7 +53,7 @@ where
     drop(listener);
     let (poll, _waker) = waker(rt).ok()?;
     let group = Ready::up_to(0)?;
-    let names = SharedDnsCache::new(alloc);
+    let names = SharedDnsCache::new(alloc, None);
     let rules = Rules::none(alloc);
     let (under_way, least_pause) = (AtomicU64::new(0), AtomicU64::new(0));
     let quota = Quota::new(alloc, 1_024, 64);

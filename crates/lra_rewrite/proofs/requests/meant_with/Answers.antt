@@ -1,26 +1,14 @@
-use Rattle.std.proofs.Common.{ap, ◌∙◌, string_bytes}
+use Rattle.std.proofs.Common.{◌≡◌, rules}
 use Rattle.serde_json.specs.Data.{put, Members}
 use Rattle.serde_json.specs.Find.{as_object}
 use Rattle.serde_json.specs.View.{view}
-use Rattle.lra_wire.specs.Request.{Request, request_of}
-use Rattle.lra_rewrite.proofs.Objects.{written_is}
-use Rattle.lra_rewrite.proofs.Others.{made_is, parts}
+use Rattle.lra_wire.specs.Request.{request_of}
+use Rattle.lra_rewrite.proofs.Others.{made_of}
 use Rattle.lra_rewrite.proofs.requests.meant_with.Goals as goal
 
 pub returns-clause-ok : goal.returns-clause-ok
 returns-clause-ok c =
-    parts c.args.own.now (request_of c.in_ok-request.request) (string_bytes c.in_ok-text.text)
-    (view c.in_ok-value.value) (as_object (view c.args.body.now))
-    (λ (ms : Members). put c.args.key.now (view c.args.member) ms)
-    (c.in_ok-request.ensures ∙ ap (λ (r : Request). record r { body = string_bytes c.in_ok-text.text })
-    c.request.ensures)
-    (written_is c.in_ok-text.text (view c.in_ok-value.value) c.in_ok-value.ensures.nests
-    c.in_ok-text.ensures.reads_back) c.in_ok-value.ensures.put
-
-pub returns-clause-made : goal.returns-clause-made
-returns-clause-made c =
-    made_is c.args.own.now _ (string_bytes c.in_ok-text.text) c.requires.reads
-    (c.in_ok-request.ensures ∙ ap (λ (r : Request). record r { body = string_bytes c.in_ok-text.text })
-    c.request.ensures)
-    (written_is c.in_ok-text.text (view c.in_ok-value.value) c.in_ok-value.ensures.nests
-    c.in_ok-text.ensures.reads_back)
+    let same : view c.in_ok-copied.copied ≡ view c.args.body.now = search rules in
+    made_of c.args.own.now (request_of c.in_ok-meant.meant.request) (as_object (view c.args.body.now))
+    (as_object (view c.in_ok-value.value)) (λ (ms : Members). put c.args.key.now (view c.args.member) ms)
+    (rw same at c.in_ok-value.ensures.put) c.in_ok-meant.ensures.ok
