@@ -38,9 +38,9 @@ def in_file_first(setting, answer):
     return look
 
 
-def check_request(request, kind, action, recovery, ended=None, parent=None):
-    """Compares an ask's request: its method, each field, and its body."""
-    fields = {"Host": request.fields["Host"]}
+def ask_fields(kind, host, action, recovery, body, parent=None):
+    """Returns the fields of an ask's request, in their order."""
+    fields = {"Host": host}
     fields["Long-Running-Action-Ended" if kind == "after" else "Long-Running-Action"] = action
     if parent:
         fields["Long-Running-Action-Parent"] = parent
@@ -48,8 +48,14 @@ def check_request(request, kind, action, recovery, ended=None, parent=None):
     if kind == "after":
         fields["Content-Type"] = "text/plain"
     if METHODS[kind] == "PUT":
-        fields["Content-Length"] = str(len(ended or ""))
+        fields["Content-Length"] = str(len(body))
     fields["Connection"] = "close"
+    return fields
+
+
+def check_request(request, kind, action, recovery, ended=None, parent=None):
+    """Compares an ask's request: its method, each field, and its body."""
+    fields = ask_fields(kind, request.fields["Host"], action, recovery, ended or "", parent)
     equal(f"the method of {kind}", request.method, METHODS[kind])
     equal(f"the fields of {kind}", list(request.fields.items()), list(fields.items()))
     equal(f"the body of {kind}", request.body.decode(), ended or "")

@@ -13,7 +13,7 @@ from socketserver import BaseRequestHandler
 
 import folders
 import journal
-from asks import ALL, METHODS, check_pauses, kinds_and_outcomes, recorded
+from asks import ALL, METHODS, ask_fields, check_pauses, kinds_and_outcomes, recorded
 from bases import Based, folder_of
 from logs import Logged, fields_of, in_words, stem_of
 from members import asked_to_join, members
@@ -294,14 +294,9 @@ class Proxy:
 
 def request_bytes(kind, target, host, action, recovery, ended=""):
     """Returns the bytes of a callback, as http.md has them."""
-    lines = [f"{METHODS[kind]} {target} HTTP/1.1", f"Host: {host}"]
-    lines.append(f"Long-Running-Action{'-Ended' if kind == 'after' else ''}: {action}")
-    lines.append(f"Long-Running-Action-Recovery: {recovery}")
-    if kind == "after":
-        lines.append("Content-Type: text/plain")
-    if METHODS[kind] == "PUT":
-        lines.append(f"Content-Length: {len(ended)}")
-    return "\r\n".join([*lines, "Connection: close", "", ended]).encode()
+    fields = ask_fields(kind, host, action, recovery, ended)
+    lines = [f"{METHODS[kind]} {target} HTTP/1.1", *(f"{name}: {value}" for name, value in fields.items())]
+    return "\r\n".join([*lines, "", ended]).encode()
 
 
 def answer_by_name(request):
