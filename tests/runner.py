@@ -111,8 +111,13 @@ def results(chosen, setting_of, at_once):
 
 
 def run(suite, modules, only, setting_of, at_once=AT_ONCE):
-    """Runs the tests with ONLY in their names, each in what `setting_of` makes for its module. Returns the status."""
-    chosen = [it for it in tests(modules) if only in it.name]
+    """Runs the tests with ONLY in their names, each in what `setting_of` makes for its module. Returns the status.
+
+    ONLY may have underscores, as a function's name has them. Where it is in no name, that is a failure."""
+    chosen = [it for it in tests(modules) if only.replace("_", " ") in it.name]
+    if not chosen:
+        print(f"{suite}: no test has {only} in its name\n{suite}: 0 passed, 1 failed")
+        return 1
     tally = Tally(suite)
     for test, (came, told) in zip(chosen, results(chosen, setting_of, at_once)):
         tally.add(came, f"{test.name}, {told}")

@@ -51,6 +51,7 @@ import http.server
 import io
 import json
 import logging
+import math
 import os
 import random
 import re
@@ -66,7 +67,7 @@ from typing import Any, Callable, ClassVar, Dict, FrozenSet, List, Optional, Set
 ENDED: FrozenSet[str] = frozenset({"Closed", "FailedToClose", "Cancelled", "FailedToCancel"})
 _ACTION_STATES = ENDED | {"Active", "Closing", "Cancelling"}
 _MEMBER_ENDS = frozenset({"Completed", "FailedToComplete", "Compensated", "FailedToCompensate"})
-_MEMBER_STATES = _MEMBER_ENDS | {"Active", "Completing", "Compensating"}
+_MEMBER_STATES = _MEMBER_ENDS | {"Active", "Completing", "Compensating", "Left"}
 _ADDRESSES = ("compensate", "complete", "status", "forget", "after")
 
 _ID = "[0-9a-f]{8}(?:-[0-9a-f]{4}){3}-[0-9a-f]{12}"
@@ -80,6 +81,8 @@ _UNPRINTABLE = re.compile(r"[^!-~]")
 _LONGEST = 65_536
 # How many seconds a call waits before it is repeated for the first time, and at most.
 _FIRST_PAUSE, _LONGEST_PAUSE = 0.1, 2.0
+# How many seconds each question of a wait has at least.
+_LEAST = 1.0
 # A start takes a connection that is kept only if it has been idle for fewer seconds: a later one may just be ending.
 _FRESH = 1.0
 # A limit is below this.
@@ -388,8 +391,7 @@ class Coordinator:
 
     def status(self, action: Union[Action, str]) -> str:
         """Returns how an action stands."""
-        body = self._call("GET", self._path(self._action(action)), None, (200,))
-        return _told_state(body, _ACTION_STATES)
+        return self._status(self._action(action), math.inf)
 
     def member_status(self, member: Union[Member, str]) -> str:
         """Returns how a member stands."""
@@ -430,6 +432,11 @@ class Coordinator:
         action.is_ending = True
         return told
 
+    def _status(self, action: Action, last: float) -> str:
+        """Returns how an action stands, if that is told until a moment."""
+        body = self._call("GET", self._path(action), None, (200,), last=last)
+        return _told_state(body, _ACTION_STATES)
+
     def _told_uri(self, body: Dict[str, Any], key: str, route: str) -> str:
         """Returns the URI that a reply gives."""
         try:
@@ -438,15 +445,19 @@ class Coordinator:
             raise BadReply(str(it)) from None
 
     def _call(
-        self, method: str, path: str, keys: Optional[Dict[str, Any]], wanted: Tuple[int, ...], repeatable: bool = True
+        self, method: str, path: str, keys: Optional[Dict[str, Any]], wanted: Tuple[int, ...], repeatable: bool = True,
+        last: float = math.inf,
     ) -> Dict[str, Any]:
-        """Sends a request, again as long as that is safe and may help, and returns the body of a wanted reply."""
+        """Sends a request, again as long as that is safe and may help, and returns the body of a wanted reply.
+
+        Nothing is waited for after the last moment.
+        """
         body = json.dumps(keys, separators=(",", ":")).encode("ascii") if keys else None
-        end = time.monotonic() + self._patience
+        end = min(time.monotonic() + self._patience, last)
         pause, lost = _FIRST_PAUSE, False
         while True:
             try:
-                return _read(self._exchange(method, path, body, repeatable), wanted)
+                return _read(self._exchange(method, path, body, repeatable, last), wanted)
             except RaxuntoError as fault:
                 if isinstance(fault, Refused):
                     fault.repeated = lost
@@ -460,13 +471,20 @@ class Coordinator:
             time.sleep(wait)
             pause = min(2 * pause, _LONGEST_PAUSE) if wait else pause
 
-    def _exchange(self, method: str, path: str, body: Optional[bytes], repeatable: bool) -> Tuple[int, bytes]:
+    def _time(self, last: float) -> float:
+        """Returns how many seconds there are for what begins now."""
+        return min(self._timeout, max(last - time.monotonic(), 0.001))
+
+    def _exchange(
+        self, method: str, path: str, body: Optional[bytes], repeatable: bool, last: float
+    ) -> Tuple[int, bytes]:
         """Sends a request once, and returns the code and the body of its reply."""
-        connection, is_kept = self._connected(repeatable)
-        end = time.monotonic() + self._timeout
+        connection, is_kept = self._connected(repeatable, last)
+        timeout = self._time(last)
+        end = time.monotonic() + timeout
         try:
             try:
-                connection.sock.settimeout(self._timeout)
+                connection.sock.settimeout(timeout)
                 connection.request(method, path, body, self._fields)
                 connection.sock.settimeout(max(end - time.monotonic(), 0.001))
                 response = connection.getresponse()
@@ -485,7 +503,7 @@ class Coordinator:
             self._own.kept = _Kept(connection, os.getpid(), time.monotonic())
         return reply
 
-    def _connected(self, repeatable: bool) -> Tuple[http.client.HTTPConnection, bool]:
+    def _connected(self, repeatable: bool, last: float) -> Tuple[http.client.HTTPConnection, bool]:
         """Takes this thread's connection, or makes one, and says whether it was kept."""
         kept: Optional[_Kept] = getattr(self._own, "kept", None)
         self._own.kept = None
@@ -493,7 +511,7 @@ class Coordinator:
             if kept.is_open() and (repeatable or time.monotonic() - kept.since < _FRESH):
                 return kept.connection, True
             kept.connection.close()
-        connection = self._made()
+        connection = self._made(last)
         try:
             connection.connect()
         except (OSError, ValueError) as fault:
@@ -504,12 +522,12 @@ class Coordinator:
             raise
         return connection, False
 
-    def _made(self) -> http.client.HTTPConnection:
-        base = self._base
+    def _made(self, last: float = math.inf) -> http.client.HTTPConnection:
+        base, timeout = self._base, self._time(last)
         connection = (
-            http.client.HTTPSConnection(base.host, base.port, timeout=self._timeout, context=self._context)
+            http.client.HTTPSConnection(base.host, base.port, timeout=timeout, context=self._context)
             if base.secure
-            else http.client.HTTPConnection(base.host, base.port, timeout=self._timeout)
+            else http.client.HTTPConnection(base.host, base.port, timeout=timeout)
         )
         connection.response_class = _Response
         return connection
@@ -649,13 +667,26 @@ class Action:
         return self.coordinator.status(self)
 
     def wait(self, seconds: float) -> str:
-        """Asks how it stands until it has ended, for so many seconds at most, and returns what was told last."""
+        """Asks how it stands until it has ended, for so many seconds at most, and returns what was told last.
+
+        A question has the time that is left, or a second where less is. Where none is answered by then, this raises.
+        """
         end = time.monotonic() + seconds
-        pause = 0.02
-        while (told := self.status()) not in ENDED and (left := end - time.monotonic()) > 0:
+        pause, told = 0.02, ""
+        while True:
+            begun = time.monotonic()
+            last = max(end, begun + _LEAST)
+            try:
+                told = self.coordinator._status(self, last)
+            except Unreachable:
+                # A question that this wait has cut short takes nothing from what was told before.
+                if not told or (time.monotonic() < end and begun + self.coordinator._patience < last):
+                    raise
+            left = end - time.monotonic()
+            if told in ENDED or left <= 0:
+                return told
             time.sleep(min(pause, left))
             pause = min(2 * pause, 1.0)
-        return told
 
 
 @dataclasses.dataclass(frozen=True)
@@ -757,7 +788,7 @@ def _reply_to(kind: str, result: Result) -> Tuple[int, str]:
             return 410, ""
         if result is AT_IT:
             return 202, ""
-        if isinstance(result, str) and result in _MEMBER_STATES - {"Active"}:
+        if isinstance(result, str) and result in _MEMBER_STATES - {"Active", "Left"}:
             return 200, result
     elif result in (None, DONE):
         return 200, ""

@@ -18,6 +18,8 @@ PROXIES = {"haproxy": ("haproxy.cfg", ["haproxy", "-W", "-f"]), "nginx": ("nginx
 RELOADS = {"haproxy": signal.SIGUSR2, "nginx": signal.SIGHUP}
 # How many seconds a proxy has until somebody listens.
 SECONDS = 10
+# What names the file of the operators' key, where their ports ask for one.
+KEY_FILE = "LRA_OPERATORS_KEY"
 
 
 class Site:
@@ -98,17 +100,40 @@ def section_of(lines):
         yield line
 
 
+def authorization():
+    """What the operators' ports are given as `Authorization`, or nothing where they ask for no key."""
+    path = os.environ.get(KEY_FILE)
+    if not path:
+        return ""
+    try:
+        with open(path, encoding="ascii") as it:
+            key = it.read().rstrip("\r\n")
+    except (OSError, ValueError) as fault:
+        sys.exit(f"cluster: {KEY_FILE}: {path} can't be read: {fault}")
+    if not key or not key.isprintable():
+        sys.exit(f"cluster: {KEY_FILE}: {path} has no key on one line")
+    return "Bearer " + key
+
+
+def header(value):
+    """A check's header for HAProxy, whose quotes and formats leave the value as it is."""
+    spelled = value.replace("%", "%%").replace("'", r"'\''")
+    return f" hdr Authorization '{spelled}'" if value else ""
+
+
 def settings(kind, folder, listener, sites):
-    """A proxy's settings for these sites."""
+    """A proxy's settings for these sites. HAProxy's have the operators' key, if there is one."""
+    words = {"FOLDER": folder, "LISTENER": listener, "AUTHORIZATION": header(authorization())}
     with open(f"{HERE}/{PROXIES[kind][0]}", encoding="ascii") as template:
-        return "".join(filled(template, sites, {"FOLDER": folder, "LISTENER": listener}))
+        return "".join(filled(template, sites, words))
 
 
 def is_ready(operators, seconds=1):
     """Whether a coordinator says at its operators' port that it is ready."""
+    value = authorization()
     connection = http.client.HTTPConnection(operators, timeout=seconds)
     try:
-        connection.request("GET", "/health/ready")
+        connection.request("GET", "/health/ready", headers={"Authorization": value} if value else {})
         return connection.getresponse().status == 200
     except (OSError, http.client.HTTPException):
         return False
@@ -124,9 +149,11 @@ def upstream(sites, ready=is_ready):
     return "".join(f"server {it[0]} max_fails=1 fail_timeout=1s{'' if it in up else ' down'};\n" for it in servers)
 
 
-def put(path, text):
-    """Writes a file in one go."""
+def put(path, text, is_secret=False):
+    """Writes a file in one go, which its owner alone may read where it is secret."""
     with open(path + ".next", "w", encoding="ascii") as it:
+        if is_secret:
+            os.fchmod(it.fileno(), 0o600)
         it.write(text)
     os.replace(path + ".next", path)
 
@@ -173,7 +200,8 @@ class Proxy:
         return f"{self.folder}/{name}"
 
     def write(self):
-        put(self.path(self.name), settings(self.kind, self.folder, self.listener, self.sites))
+        text = settings(self.kind, self.folder, self.listener, self.sites)
+        put(self.path(self.name), text, is_secret=bool(authorization()))
         if self.kind == "nginx":
             put(self.path("starts.conf"), upstream(self.sites))
 

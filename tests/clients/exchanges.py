@@ -86,6 +86,18 @@ def test_each_call_is_sent_as_the_page_says(_):
         check("no key is sent", "Authorization" not in fields)
 
 
+def test_a_member_that_has_left_is_told_as_that(_):
+    with StandIn() as place:
+        coordinator = quick(place)
+        trip = coordinator.start()
+        member = trip.join(**ADDRESSES)
+        member.leave()
+        equal("how it stands", (member.status(), coordinator.member_status(member.uri)), ("Left", "Left"))
+        trip.close()
+        raised(raxunto.HasLeft, member.report, "Completed")
+        equal("after the end", member.status(), "Left")
+
+
 def test_a_key_is_sent_with_each_request(_):
     with StandIn() as place:
         action = quick(place, key="c2hvcA.4711").start()

@@ -222,6 +222,35 @@ def test_who_accepts_and_says_nothing_has_its_time(_):
         check("it may be done", raised(raxunto.Unreachable, coordinator.start).maybe_done)
 
 
+def test_a_wait_for_who_says_nothing_has_its_time(_):
+    with socket.create_server((HOST, 0)) as listener:
+        base = f"http://{HOST}:{listener.getsockname()[1]}/"
+        trip = Coordinator(base).action(base + "lra-coordinator/00000000-0000-8007-8000-000000000001")
+        for seconds, least in ((0, 0.9), (1.5, 1.4)):
+            begun = time.monotonic()
+            check("it may be done", raised(raxunto.Unreachable, trip.wait, seconds).maybe_done)
+            check(f"{seconds} s take {time.monotonic() - begun:.1f} s", least < time.monotonic() - begun < 5)
+
+
+def test_a_wait_in_which_answers_cease_returns_what_was_told(_):
+    for fault in (SILENT, DROPPED, Says(reply(503, {"error": "Stopped"}), True)):
+        with StandIn() as place:
+            trip = Coordinator(place.base).start()
+            place.faults = [None, *1000 * [fault]]
+            begun = time.monotonic()
+            if isinstance(fault, Says):
+                raised(raxunto.Stopped, trip.wait, 1.5)
+            else:
+                equal(f"what was told before {fault}", trip.wait(1.5), "Active")
+            check(f"{fault} takes {time.monotonic() - begun:.1f} s", 0.5 < time.monotonic() - begun < 5)
+    with StandIn() as place:
+        trip = quick(place, patience=0).start()
+        place.faults = [None, DROPPED, DROPPED]
+        begun = time.monotonic()
+        raised(raxunto.Unreachable, trip.wait, 30)
+        check("its patience is over before", time.monotonic() - begun < 5)
+
+
 def test_a_leave_whose_reply_was_lost_has_left(_):
     with StandIn() as place:
         trip = quick(place, patience=5).start()

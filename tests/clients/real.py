@@ -121,6 +121,7 @@ def test_who_leaves_isnt_asked(setting):
         member = trip.join(**shop.addresses(port, trip, "complete", "compensate"))
         stays = trip.join(**shop.addresses(port, trip, "complete", "compensate", work="stays"))
         member.leave()
+        equal("how it stands", member.status(), "Left")
         raised(raxunto.HasLeft, member.leave)
         raised(raxunto.WrongAction, coordinator.start().leave, stays)
         check("it may join anew", trip.join(**shop.addresses(port, trip, "complete", "compensate")).uri != member.uri)

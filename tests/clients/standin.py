@@ -205,6 +205,7 @@ class StandIn:
                 raise Refusal(410, "HasLeft")
             self.active(name)
             member["left"] = True
+            member["status"] = "Left"
             return reply(200, {"status": "Left"})
         service.equal("a change", how, "renew")
         self.active(name)
@@ -222,6 +223,8 @@ class StandIn:
 
     def report(self, name, body):
         member = self.member(name)
+        if member["left"]:
+            raise Refusal(410, "HasLeft")
         if self.actions[member["action"]]["status"] == "Active":
             raise Refusal(412, "NotAsked")
         member["status"] = body["status"]

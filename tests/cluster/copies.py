@@ -52,6 +52,23 @@ def whole_lines(setting, folder, to):
     return audited(setting.program, to)
 
 
+def test_a_copy_that_is_made_once_tells_what_came_of_it(setting):
+    if not shutil.which("rsync"):
+        raise LeftOut("there is no rsync")
+    site, to = setting.folder + "/site", setting.folder + "/copy"
+    os.makedirs(site + "/ended")
+    names = ["000000000000001.journal", "base", "ended/000000000000000.journal", "given-up", "newest", "restored"]
+    for name in names:
+        journal.write(f"{site}/{name}", name.encode())
+    copy = lambda *words: subprocess.run(
+        [f"{setting.root}/examples/cluster/copy", *words, "0"], capture_output=True, check=False
+    ).returncode
+    equal("the status", copy(site, to), 0)
+    equal("what is in it", [it for it in names if os.path.exists(f"{to}/{it}")], names)
+    check("a folder that isn't there", copy(setting.folder + "/none", to) != 0)
+    check("a place that can't be made", copy(site, setting.folder + "/none/copy") != 0)
+
+
 def lines_of(folder):
     """The whole lines of each journal of a folder, wherever it is."""
     found = {}

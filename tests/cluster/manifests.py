@@ -39,6 +39,7 @@ CHANGES = (
     ("ingress.yaml", "host: lra.example.com", "host: lra.example.net"),
     ("monitor.yaml", "path: /metrics", "path: /measures"),
     ("monitor.yaml", "name: lra-operators-key", "name: lra-key"),
+    ("monitor.yaml", "jobLabel: app.kubernetes.io/name", "jobLabel: app.kubernetes.io/component"),
 )
 
 

@@ -3,13 +3,15 @@ and by who is ready."""
 import contextlib
 import os
 import resource
+import time
 import uuid
 from collections import Counter
+from unittest import mock
 
 from load import CLIENTS_OF, Caller, Told
 from participant import Participant, wait_until
-from parts import PlainSite
-from proxies import Proxy
+from parts import OPTIONS, PlainSite
+from proxies import KEY_FILE, Proxy, put
 from service import check, equal, free_port, id_of
 
 BASE = "http://lra.example.com/"
@@ -19,13 +21,12 @@ STARTS = 12
 
 
 @contextlib.contextmanager
-def cluster(setting, kind, numbers=(1, 2, 3), path=""):
+def cluster(setting, kind, numbers=(1, 2, 3), path="", options=OPTIONS):
     """Sites behind a proxy, without leases, at a base with a path or without."""
     with contextlib.ExitStack() as stack:
         proxy = Proxy(kind, f"{setting.folder}/proxy", free_port())
-        sites = [
-            stack.enter_context(PlainSite(setting, number, f"http://{proxy.listener}/{path}")) for number in numbers
-        ]
+        base = f"http://{proxy.listener}/{path}"
+        sites = [stack.enter_context(PlainSite(setting, number, base, options)) for number in numbers]
         for site in sites:
             wait_until("a site is ready", site.is_up)
         stack.callback(proxy.kill)
@@ -117,6 +118,20 @@ def test_a_base_may_have_a_path_behind_haproxy(setting):
 
 def test_a_base_may_have_a_path_behind_nginx(setting):
     below(setting, "nginx")
+
+
+def test_sites_whose_operators_ask_for_a_key_take_starts_behind_haproxy(setting):
+    """HAProxy takes a site for ready until it was asked twice in vain, which is within a second or two."""
+    key = setting.folder + "/operators"
+    put(key, "it's 100% a key\n", is_secret=True)
+    options = (*OPTIONS, "--operators-key", key)
+    with mock.patch.dict(os.environ, {KEY_FILE: key}), cluster(setting, "haproxy", options=options) as (proxy, sites):
+        equal("the settings' mode", oct(os.stat(proxy.path(proxy.name)).st_mode & 0o777), oct(0o600))
+        time.sleep(3)
+        starts = sites_of_starts(caller_of(proxy))
+        equal("the sites that take starts", sorted(starts), ["0001", "0002", "0003"])
+        del os.environ[KEY_FILE]
+        check("a site is ready without the key", not any(it.is_up() for it in sites))
 
 
 def test_what_names_an_identifier_goes_to_its_site_behind_haproxy(setting):

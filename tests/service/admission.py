@@ -8,10 +8,12 @@ import re
 
 import journal
 from bases import Based, folder_of
+from crowds import refused_starts
+from folders import SOON, Folder, instance_of
 from operators import WatchedFolder, measures
 from options import config, serve_by, told_of
 from participant import Participant, wait_until
-from service import HOST, PATIENCE, check, equal, id_of, is_ready
+from service import HOST, PATIENCE, Client, Reply, check, equal, id_of, is_ready
 
 SHOP, TILL, FORMER = "c2hvcA.4711", "dGlsbA~0815", "Zm9ybWVy"
 # Values of Authorization that give no key of SHOP and TILL.
@@ -216,6 +218,28 @@ def test_a_request_has_to_give_a_key(setting):
 
 def test_a_request_of_a_folder_has_to_give_a_key(setting):
     check_keys(setting, folder_of(setting))
+
+
+class Keyed(Client):
+    """A client that gives a key."""
+
+    def send(self, method, path, body):
+        self.connection.request(method, path, body, bearer(SHOP))
+        reply = self.connection.getresponse()
+        return Reply(reply.status, reply.reason, dict(reply.getheaders()), json.loads(reply.read()))
+
+
+def test_a_journal_is_archived_while_strangers_leave_no_pause(setting):
+    """No thread has a quiet moment, and none is asked for anything of a journal: each lets go of what has ended."""
+    with Folder(setting, "--key", key_file(setting), *SOON) as folder, Keyed(folder.port) as client:
+        actions = [client.start() for _ in range(3)]
+        folder.wait_for(2)
+        with refused_starts(folder, 401) as codes:
+            wait_until("some are refused", lambda: len(codes) > 100)
+            for action in actions:
+                equal("an end", client.end(action, "close"), "Closed")
+            wait_until("its journal is archived", lambda: folder.ended() == [instance_of(actions[0])])
+    return f"{len(codes)} strangers refused"
 
 
 def line_of(service):

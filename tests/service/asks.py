@@ -204,6 +204,18 @@ def test_a_silent_member_is_asked_again_after_longer_and_longer_pauses(setting):
         wait_until("the end", lambda: client.status(action) == "Cancelled")
 
 
+def test_a_member_at_an_address_that_no_socket_reaches_is_silent(setting):
+    """The system refuses at once to connect to an address of a link where none is named. That is the address's fault,
+    and none of the system's own."""
+    with setting.serve() as service, service.client() as client:
+        action = client.start()
+        recovery = client.join(action, compensate="http://[fe80::1]:9/undo")
+        client.end(action, "cancel")
+        asks = recorded(setting, recovery, 3)[:3]
+        equal("asks", kinds_and_outcomes(asks), [("compensate", "silent")] * 3)
+        check_pauses(asks)
+
+
 def test_a_member_that_answers_202_without_a_status_address_is_asked_again(setting):
     replies = [(202, b""), (202, b""), (202, b""), (200, b"")]
     with setting.serve() as service, Participant(lambda _: replies.pop(0)) as member, service.client() as client:

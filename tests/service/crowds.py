@@ -1,11 +1,13 @@
 """Many clients at once: those that keep their connections, that send slowly, that take nothing and that break off;
 others are answered beside them."""
+import contextlib
+import http.client
 import resource
 import threading
 import time
 
 from patience import narrow, serves
-from service import LATE, LeftOut, check, equal, id_of, is_ready, received, reset
+from service import LATE, PATIENCE, LeftOut, check, equal, id_of, is_ready, received, reset
 
 # How many connections are kept at once, and how many clients are slow in each way.
 KEPT, SLOW = 2000, 500
@@ -15,6 +17,9 @@ AHEAD, FEW = 800, 50
 # How many files a test may want beside its connections.
 OTHERS = 500
 UNKNOWN = b"GET /lra HTTP/1.1\r\nHost: h\r\n\r\n"
+# How many clients ask in vain, so that each thread has some, and how many seconds each rests between two requests: a
+# thread has a quiet moment where nothing comes for a quarter of a second.
+IN_VAIN, APART = 12, 0.03
 
 
 def room_for(service, connections):
@@ -53,6 +58,37 @@ def crowd(service, count):
 def close_all(streams):
     for stream in streams:
         stream.close()
+
+
+def start_in_vain(service, over, codes):
+    """Asks for a start again and again, over a connection that is kept, until that is over or nobody listens."""
+    with service.client() as client:
+        while not over.wait(APART):
+            try:
+                codes.append(client.call("POST", "/lra-coordinator").code)
+            except ConnectionRefusedError:
+                return
+            except (OSError, http.client.HTTPException):
+                # A connection has so many requests and no more, or the service ends.
+                client.connection.close()
+
+
+@contextlib.contextmanager
+def refused_starts(service, code):
+    """Clients that keep all threads of a service at work with starts that it refuses by this code. Yields the codes."""
+    over, codes = threading.Event(), []
+    clients = [
+        threading.Thread(target=start_in_vain, args=(service, over, codes), daemon=True) for _ in range(IN_VAIN)
+    ]
+    for client in clients:
+        client.start()
+    try:
+        yield codes
+    finally:
+        over.set()
+        for client in clients:
+            client.join(PATIENCE)
+    equal("what they were answered", set(codes), {code})
 
 
 def test_two_thousand_kept_connections_are_each_answered(setting):

@@ -4,6 +4,7 @@ import contextlib
 import glob
 import os
 import re
+import resource
 import shutil
 import socket
 import subprocess
@@ -28,6 +29,8 @@ SOON = ("--roll-after", "3", "--remember", "1")
 FAR = ("--roll-after", "3", "--remember", "3600")
 # How many entries a journal may have.
 ENTRIES = 4_000_000
+# How many files a service may open beside those that it has open, where they are to be too few for a next journal.
+FEW_FILES = 40
 # The first identifier of the journal that is nearly full.
 NEAR = "/lra-coordinator/00000000-0000-8007-8000-000000000001"
 
@@ -574,6 +577,29 @@ def test_a_folder_that_cannot_be_written_any_more_keeps_its_newest_journal_until
         check("a start goes to the old one", instance_of(folder.first()[0]) != instance_of(actions[0]))
 
 
+def test_each_reason_why_there_is_no_next_journal_is_told_once(setting):
+    """There are too few files for it; then the folder can't be written; then there is one."""
+    with Folder(setting, *FAR, front=obeying()) as folder:
+        pid = folder.process.pid
+        used = len(os.listdir(f"/proc/{pid}/fd"))
+        before = resource.prlimit(pid, resource.RLIMIT_NOFILE)
+        # So many more leave room for clients, and none for a next journal.
+        resource.prlimit(pid, resource.RLIMIT_NOFILE, (used + FEW_FILES, before[1]))
+        few = f"lra: too many files are open for a next journal of {folder.folder}\n"
+        wait_until("that there are too few files", lambda: folder.first() and folder.told() == few)
+        unwritten = f"lra: cannot write {folder.folder}\n"
+        with unwritable(folder.folder):
+            wait_until("that it can't be written", lambda: folder.told() == few + unwritten)
+            time.sleep(2.5)
+            equal("what is told", folder.told(), few + unwritten)
+            resource.prlimit(pid, resource.RLIMIT_NOFILE, before)
+        newest = max(folder.journals())
+        wait_until("the next journal", lambda: folder.first() and max(folder.journals()) > newest)
+        equal("what is told in all", folder.told(), few + unwritten)
+        folder.kill()
+    equal("the audit's status", setting.run("audit", folder.folder).status, 0)
+
+
 @contextlib.contextmanager
 def small_disk(path):
     """A disk of a megabyte at a path. Not everybody may have one."""
@@ -630,11 +656,11 @@ def test_a_full_disk_stops_two_journals_and_no_reads(setting):
         check_sound(folder)
 
 
-def nearly_full(setting, port, entries):
-    """A journal of so many entries, with an action that has a member at a port."""
+def nearly_full(setting, port, entries, after="*"):
+    """A journal of so many entries, with an action that has a member at a port, which may want to be told its end."""
     begun = (
-        b"lra-journal 2 7\n1 0 enrol\n1 5 start 1 * 0\n1 6 join 1 1 http://%s:%d/compensate * * * *\n"
-        % (HOST.encode(), port)
+        b"lra-journal 2 7\n1 0 enrol\n1 5 start 1 * 0\n1 6 join 1 1 http://%s:%d/compensate * * * %s\n"
+        % (HOST.encode(), port, after.encode())
     )
     put(setting, SEVENTH + ".journal", begun + b"1 7 restart\n" * (entries - 3))
 

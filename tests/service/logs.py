@@ -161,6 +161,44 @@ def test_nothing_is_logged_unless_it_is_asked_for(setting):
         equal("what is told", service.told(), "")
 
 
+class LoggedFolder(Folder):
+    """A service of a folder with a log, which ends with its standard input."""
+
+    def __init__(self, setting, *options):
+        super().__init__(setting, "--stop-at-eof", *options, front=["env", "-u", "JOURNAL_STREAM"])
+
+    def __enter__(self):
+        super().__enter__()
+        # The newest is the one of the test's action.
+        self.journal = self.path(max(self.journals()) + ".journal")
+        return self
+
+
+def test_what_callbacks_record_at_a_gentle_end_is_told(setting):
+    """A member answers a while after standard input has ended: by that its action ends, which is logged at last."""
+    for kind in (Logged, LoggedFolder):
+        release = threading.Event()
+        with (
+            Participant(lambda _, release=release: (release.wait(PATIENCE), (200, b""))[1]) as member,
+            kind(setting, "--log", "info") as service,
+            service.client() as client,
+        ):
+            action = client.start()
+            client.join(action, **member.addresses("complete", "compensate"))
+            equal("the status", client.end(action, "close"), "Closing")
+            member.wait("complete")
+            service.process.stdin.close()
+            time.sleep(0.7)
+            equal("it waits for the answer", service.process.poll(), None)
+            release.set()
+            equal("the status of the program", service.process.wait(PATIENCE), 0)
+            recorded = [it.deed for it in journal.entries(service.journal)]
+            equal("what is recorded last", recorded[-2:], ["reply", "end"])
+            lines = [fields_of(said) for _, _, said in in_words(service.told())]
+            its_end = {"journal": stem_of(service.journal), "action": number_of(action), "status": "Closed"}
+            equal("what is told of ends", [it for said, it in lines if said == "action ended"], [its_end])
+
+
 def test_words_that_are_no_level_and_no_form_are_refused(setting):
     journal.write(setting.journal, SOUND)
     for words in (

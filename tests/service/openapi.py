@@ -81,6 +81,7 @@ def test_the_services_port_answers_as_described(setting):
         second = ask("PUT", path, compensate=member.uri("other"))["recovery"]
         ask("PUT", path + "/remove", recovery=second)
         ask("PUT", path + "/remove", recovery=second)
+        equal("a member that has left", ask("GET", "/lra-recovery/" + id_of(second)), {"status": "Left"})
         ask("PUT", path + "/renew", limit=600_000)
         ask("GET", path)
         ask("GET", "/lra-recovery/" + id_of(first))
@@ -109,6 +110,8 @@ def test_the_operators_port_answers_as_described(setting):
         action, other = client.start(), client.start()
         client.start(parent=action)
         recovery = client.join(action, **member.addresses("complete", "compensate", "status"))
+        gone = client.join(action, **member.addresses("compensate"))
+        client.call("PUT", f"/lra-coordinator/{id_of(action)}/remove", recovery=gone)
         for path in (
             "/health",
             "/health/live",
@@ -132,6 +135,7 @@ def test_the_operators_port_answers_as_described(setting):
         ask(f"/members/{id_of(recovery)}/give-up", "POST", json.dumps({"status": "FailedToComplete"}))
         ask(f"/members/{id_of(recovery)}/give-up", "POST", json.dumps({"status": "Lost"}))
         ask(f"/members/{id_of(recovery)}/give-up", "POST", json.dumps({"status": "Ended"}))
+        ask(f"/members/{id_of(gone)}/give-up", "POST", json.dumps({"status": "FailedToComplete"}))
         ask(f"/actions/{id_of(action)}")
     equal("what was asked", set(told.codes), told.operations(True))
     return f"{sum(map(len, told.codes.values()))} replies"

@@ -1,6 +1,7 @@
 """The operators' port: health, metrics, lists, pages and orders, who may ask, and that nobody who is slow blinds it."""
 import base64
 import contextlib
+import errno
 import http.client
 import json
 import os
@@ -21,6 +22,8 @@ import hung
 import journal
 from participant import Participant, wait_until
 from service import HOST, LATE, PATIENCE, LeftOut, Reply, Service, check, equal, free_port, id_of
+from tokens import TOKEN, token_file
+from watching import Deniable, denial
 
 KEY = "a key of the operators"
 FORM = "application/x-www-form-urlencoded"
@@ -33,6 +36,18 @@ ASKED = 100
 TURNS = 10
 # How many actions are many: some stretches of those that are counted together.
 MANY = 1500
+# Requests whose path or method isn't served: the method, the path, what is answered to those who may ask, and what is
+# allowed.
+UNSERVED = (
+    *(("GET", path, 404, None) for path in ("/page", "/pagex", "/page/nothing", "/nothing", "/nothing?page")),
+    *(("POST", "/page", 404, None), ("PUT", "/nothing", 404, None)),
+    *(("PUT", "/metrics", 405, "GET"), ("POST", "/health", 405, "GET"), ("DELETE", "/", 405, "GET")),
+    *(("GET", "/actions/1/close", 405, "POST"), ("PUT", "/members/1/give-up", 405, "POST")),
+)
+# How long a member is left in peace that has given no answer, in milliseconds: longer than any test takes.
+SELDOM = "600000"
+# How many seconds a journal is left in peace, so that what is left to be done there was looked for.
+LOOKED = 4
 # The marks of HTML, in an address of a member and in a path.
 MARKUP = "<i>&\"'"
 
@@ -190,6 +205,45 @@ class HangingDisk:
 
     def __exit__(self, *_):
         os.remove(self.flag)
+
+
+class Unarchived(Deniable, WatchedFolder):
+    """A service of a folder with a log of errors, to which calls of the system can be denied."""
+
+    def __init__(self, setting):
+        super().__init__(setting, *folders.SOON, "--log", "error")
+        self.watch(setting)
+
+
+def test_a_journal_that_has_left_and_is_not_archived_yet_has_not_stopped(setting):
+    """What names it can't be answered then. Nothing is wrong with the journal, and nothing says so."""
+    with Unarchived(setting) as service, service.client() as client:
+        actions = service.first(3)
+        service.wait_for(2)
+        service.deny(denial("link", "/ended/.*.journal$", errno.ENOSPC))
+        for action in actions:
+            equal("an end", client.end(action, "close"), "Closed")
+        wait_until("it can't be archived", service.denied)
+        for action in actions:
+            for method, rest in (("GET", ""), ("PUT", "/close")):
+                with service.client() as other:
+                    reply = other.call(method, f"/lra-coordinator/{id_of(action)}{rest}")
+                equal(f"{method} {rest}", (reply.code, reply.body), (503, {"error": "Stopped"}))
+        equal("liveness", service.read("/health/live")["status"], "UP")
+        equal("readiness", service.read("/health/ready")["status"], "UP")
+        equal("the measure", measures(service)["lra_journal_failed"], 0)
+        # The log is written some times a second.
+        time.sleep(1)
+        check(f"the log has {service.told()!r}", "write failed" not in service.told())
+        equal("liveness still", service.read("/health/live")["status"], "UP")
+        service.allow()
+        wait_until("it is archived", lambda: service.ended() == [folders.instance_of(actions[0])])
+        wait_until("it isn't there any more", lambda: all(service.missing(action) for action in actions))
+        equal("the measure then", measures(service)["lra_journal_failed"], 0)
+        check("the log", "write failed" not in service.told())
+        service.kill()
+    service.words = service.plain
+    folders.check_sound(service)
 
 
 def test_a_sync_that_hangs_is_told(setting):
@@ -729,6 +783,97 @@ def test_a_member_that_was_given_up_is_so_after_a_restart(setting):
             wait_until("its journal is archived", lambda: service.ended() == [folders.instance_of(actions[0])])
 
 
+def test_a_member_that_is_given_up_in_a_quiet_journal_lets_it_be_archived(setting):
+    """Nothing is written to the journal by that, nor afterwards: all else in it had ended long before."""
+    pauses = ("--retry-first", SELDOM, "--retry-last", SELDOM)
+    service = WatchedFolder(setting, *pauses, *folders.SOON)
+    with (
+        Participant(lambda request: (200, b"") if request.path == "/compensate" else (500, b"")) as member,
+        service,
+        service.client() as client,
+    ):
+        actions = service.first(3)
+        service.wait_for(2)
+        # From here on the port knows the journal.
+        equal("the status", service.read("/actions/" + id_of(actions[0]))["status"], "Active")
+        recovery = client.join(actions[0], **member.addresses("compensate", "after"))
+        for action in actions[1:]:
+            client.end(action, "cancel")
+        client.end(actions[0], "cancel")
+        member.wait("after")
+        first = folders.instance_of(actions[0])
+        path = service.path(first + ".journal")
+        time.sleep(LOOKED)
+        equal("what is archived before", service.ended(), [])
+        before = journal.read(path)
+        reply = service.ask(f"/members/{id_of(recovery)}/give-up", "POST", json.dumps({"status": "Ended"}))
+        equal("the reply", (reply.code, json.loads(reply.body)), (200, {"status": "Done"}))
+        begun = time.monotonic()
+        wait_until("it is archived", lambda: service.ended() == [first])
+        took = time.monotonic() - begun
+        equal("how often it was told", len(member.at("after")), 1)
+        equal("what was written since", journal.read(service.path(f"ended/{first}.journal"))[len(before) :], b"")
+        audited(setting, service.path(f"ended/{first}.journal"))
+    return f"archived after {took:.1f} s"
+
+
+def last_deeds(path):
+    """The deeds of the last entries of a long journal."""
+    with open(path, "rb") as it:
+        it.seek(-1000, os.SEEK_END)
+        return [entry.deed for entry in journal.entries_of(journal.whole(it.read()).partition(b"\n")[2])]
+
+
+def test_a_member_whose_ask_is_held_back_for_good_is_given_up_and_its_journal_archived(setting):
+    """The journal is nearly full, so that a silent member isn't asked again, though the journal has the ask."""
+    with Participant(lambda request: (200, b"") if request.path == "/compensate" else (500, b"")) as member:
+        folders.nearly_full(setting, member.port, folders.ENTRIES * 15 // 16, member.uri("after"))
+        with WatchedFolder(setting, "--remember", "1") as service, service.client() as client:
+            service.wait_for(2)
+            path = service.path(folders.SEVENTH + ".journal")
+            client.end(folders.NEAR, "cancel")
+            wait_until("that it is to be asked again", lambda: last_deeds(path)[-2:] == ["reply", "ask"])
+            time.sleep(LOOKED)
+            equal("how often it was told, and what is archived", (len(member.at("after")), service.ended()), (1, []))
+            before = os.path.getsize(path)
+            # Its number is the action's, and so is its identifier.
+            reply = service.ask(f"/members/{id_of(folders.NEAR)}/give-up", "POST", json.dumps({"status": "Ended"}))
+            equal("the reply", (reply.code, json.loads(reply.body)), (200, {"status": "Done"}))
+            wait_until("it is archived", lambda: service.ended() == [folders.SEVENTH])
+            after = os.path.getsize(service.path(f"ended/{folders.SEVENTH}.journal"))
+            equal("how many bytes were written since", after - before, 0)
+            equal("how often it was told in all", len(member.at("after")), 1)
+    folders.check_sound(service)
+
+
+def test_what_a_killed_start_left_over_does_no_harm(setting):
+    """It was about to replace a file. The next start replaces or removes what it had of that, with and without a port,
+    and goes on with what was there."""
+    base = ("--base", "http://lra.test/")
+    service = WatchedFolder(setting, *base)
+    with service:
+        action = service.first()[0]
+    given_up = b"%d 1 given up\n" % int(folders.instance_of(action), 16)
+    journal.write(service.path("given-up"), given_up)
+    names = ("given-up", "newest", "base", "restored")
+    for left, options in (*(((name,), ()) for name in names), (names, ()), (("restored",), ("--restored",))):
+        for kind in (WatchedFolder, folders.Folder):
+            service = kind(setting, *base, *options)
+            for name in left:
+                journal.write(service.path(f"{name}.next"), b"1")
+            with service, service.client() as client:
+                equal(f"the status beside {left}", client.status(action), "Active")
+                equal("what is told", service.told(), "")
+                rest = [name for name in left if os.path.exists(service.path(f"{name}.next"))]
+                # That of the newest instance is written again before each journal.
+                equal("what is left", [name for name in rest if name != "newest"], [])
+                check("the instance", int(journal.read(service.path("newest"))) > 1)
+                equal("the base", journal.read(service.path("base")), b"http://lra.test/\n")
+                equal("who is given up", journal.read(service.path("given-up")), given_up)
+                client.start()
+    folders.check_sound(service)
+
+
 def test_a_give_up_needs_a_key_at_a_loopback_address_too(setting):
     with (
         Watched(setting, key=None) as service,
@@ -813,6 +958,57 @@ def test_what_is_not_served_is_refused_by_name(setting):
             equal("what is allowed", reply.fields["Allow"], allowed)
         refusal(service.ask("/actions/1/close", "POST"), 404, "NoSuchAction")
         refusal(service.ask("/members/1/give-up", "POST"), 404, "NoSuchMember")
+
+
+def behind_a_token(kind, setting, key=KEY):
+    """A service whose base has a secret, with a port for operators."""
+    service = kind(setting, key=key)
+    at = service.words.index("serve") + 1
+    service.words[at:at] = ["--token", token_file(setting)]
+    return service
+
+
+def check_tells_nothing(service, reply):
+    """Fails the test where a reply tells where the service is."""
+    text = f"{reply.phrase}{reply.fields}{reply.body}"
+    for secret in (TOKEN, service.address, "http://"):
+        check(f"{secret!r} stands in {text!r}", secret not in text)
+
+
+def test_what_is_not_served_is_told_with_the_key_alone(setting):
+    """Without it nobody learns the base, which has a secret, nor which paths there are."""
+    cases = ({}, {"Host": "lra.example.org"}, {"Authorization": f"Bearer {KEY}s"}, {"Authorization": basic(KEY[:-1])})
+    for kind in (Watched, WatchedFolder):
+        with behind_a_token(kind, setting) as service:
+            base = f"http://{service.address}/{TOKEN}/"
+            for method, path, code, allowed in UNSERVED:
+                for fields in cases:
+                    reply = service.ask(path, method, key=None, **fields)
+                    refusal(reply, 401, "WrongKey")
+                    equal("what is asked for", reply.fields["WWW-Authenticate"], 'Basic realm="lra", charset="UTF-8"')
+                    check(f"what is allowed: {reply}", "Allow" not in reply.fields)
+                    check_tells_nothing(service, reply)
+                reply = service.ask(path, method)
+                equal(f"{method} {path}", (reply.code, reply.fields.get("Allow")), (code, allowed))
+                if path.startswith("/page"):
+                    equal("the kind", reply.fields["Content-Type"], "text/html; charset=utf-8")
+                    check(f"the base in {reply.body!r}", f"<code>{base}</code>" in reply.body)
+                else:
+                    refusal(reply, code, "NoSuchPath" if code == 404 else "BadMethod")
+            page = service.ask("/pagex", key=None, Authorization=basic(KEY))
+            equal("a browser that gives the key", (page.code, base in page.body), (404, True))
+
+
+def test_what_is_not_served_is_told_to_the_machine_s_own_alone_without_a_key(setting):
+    for kind in (Watched, WatchedFolder):
+        with behind_a_token(kind, setting, None) as service:
+            for method, path, code, allowed in UNSERVED:
+                reply = service.ask(path, method, Host="lra.example.org")
+                refusal(reply, 403, "WrongHost")
+                check_tells_nothing(service, reply)
+                if allowed != "POST":
+                    reply = service.ask(path, method)
+                    equal(f"{method} {path}", (reply.code, reply.fields.get("Allow")), (code, allowed))
 
 
 def test_text_of_others_is_no_markup(setting):

@@ -162,6 +162,38 @@ def test_words_that_are_no_options_are_refused(setting):
     check(f"{told}", told.status == 2 and told.told.startswith("lra: ") and "--callbacks" in told.told)
 
 
+def test_an_option_is_no_file_where_a_word_is_missing(setting):
+    """The word in its place, or the one behind it, could stand for what is missing: neither does."""
+    address = f"{HOST}:{free_port()}"
+    for words in (
+        (address, "--check", "4"),
+        (address, "--drain", "4"),
+        (address, "--restored", "4"),
+        (address, "--stop-at-eof", "4"),
+        ("--check", setting.journal, "4"),
+        ("--drain", address, "4"),
+    ):
+        try:
+            # A file of an option's name would be made here.
+            done = subprocess.run(
+                [os.path.abspath(setting.program), "serve", *words],
+                cwd=setting.folder,
+                stdin=subprocess.DEVNULL,
+                capture_output=True,
+                text=True,
+                timeout=PATIENCE,
+                check=False,
+            )
+        except subprocess.TimeoutExpired as it:
+            raise AssertionError(f"{words} are served") from it
+        equal(f"the status of {words}, and the output", (done.returncode, done.stdout), (2, ""))
+        told = done.stderr
+        check(f"{told!r}", told.startswith("lra: ") and "WORKERS" in told and told.count("\n") == 1)
+        equal("what is made", os.listdir(setting.folder), [])
+    with setting.serve(4) as service, service.client() as client:
+        client.start()
+
+
 def test_a_file_that_is_no_table_of_settings_is_refused(setting):
     missing = setting.folder + "/missing"
     refused(setting, f"cannot read {missing}", "--config", missing)
@@ -215,6 +247,23 @@ def test_words_of_the_log_and_of_terms_are_told_and_faults_named(setting):
     refused(setting, "--members: no rule: 10.0.0.0/33", "--members", "10.0.0.0/33")
     for word in ("key", "token"):
         refused(setting, f"cannot read {setting.folder}/missing", f"--{word}", f"{setting.folder}/missing")
+
+
+def test_a_fault_of_a_text_in_a_file_names_the_file_and_the_key(setting):
+    for text, why in (
+        ('log = "loud"', "log: loud is not error, warn, info or debug"),
+        ('log-format = "xml"', "log-format: xml is not text or json"),
+        ('origin = ["a.test", "a b"]', "origin: no name: a b"),
+        ('members = ["*", "10.0.0.0/33"]', "members: no rule: 10.0.0.0/33"),
+        ('members-via = "proxy:8443"', "members-via: no IP address and port: proxy:8443"),
+        ('fence = "owner"', f"fence: {setting.journal} is no folder"),
+    ):
+        path = config(setting, text + "\n")
+        refused(setting, f"{path}: {why}", "--config", path)
+    path = config(setting, 'log = "loud"\n')
+    refused(setting, "--log: soft is not error, warn, info or debug", "--config", path, "--log", "soft")
+    path = config(setting, 'log = "loud"\norigin = ["a b"]\n')
+    refused(setting, f"{path}: origin: no name: a b", "--config", path)
 
 
 def test_help_is_told(setting):

@@ -605,7 +605,7 @@ def test_what_is_no_proxy_is_refused(setting):
         for words in ((), ("--check",)):
             refused(setting, f"--members-via: {line}", *words, "--members-via", text)
         path = config(setting, f'members-via = "{text}"\n')
-        refused(setting, f"--members-via: {line}", "--config", path)
+        refused(setting, f"{path}: members-via: {line}", "--config", path)
     path = config(setting, 'members-via = ["127.0.0.1:3129"]\n')
     refused(setting, f"{path}: members-via: no text", "--config", path)
     twice = ("--members-via", "127.0.0.1:3129") * 2

@@ -6,7 +6,8 @@ import shutil
 import time
 
 import journal
-from folders import Folder, check_sound, instance_of, refused
+from crowds import refused_starts
+from folders import FAR, Folder, check_sound, instance_of, refused
 from operators import LIVE, READY, WatchedFolder
 from participant import Participant, wait_until
 from service import HOST, PATIENCE, check, equal, free_port, id_of
@@ -72,6 +73,27 @@ def test_a_site_that_drains_ends_once_its_actions_have(setting):
 def test_a_site_with_nothing_to_do_drains_at_once(setting):
     with Folder(setting, "--drain", "--remember", str(REMEMBERED)) as folder:
         equal("how it ended", leave(folder)[0], 0)
+
+
+def test_a_site_drains_while_it_refuses_starts_without_a_pause(setting):
+    """No thread has a quiet moment, and none is asked for anything of a journal: each lets go of what has ended."""
+    with Folder(setting, *BASE, *FAR) as folder:
+        actions = folder.first(3)
+        folder.wait_for(2)
+        actions += folder.first()
+    equal("the journals", len(set(map(instance_of, actions))), 2)
+    with Folder(setting, *BASE, "--drain", "--remember", str(REMEMBERED)) as folder, folder.client() as client:
+        with refused_starts(folder, 503) as codes:
+            wait_until("some are refused", lambda: len(codes) > 100)
+            for action in actions:
+                equal("an end", client.end(action, "close"), "Closed")
+            begun = time.monotonic()
+            wait_until("it has ended", lambda: folder.process.poll() is not None)
+            took = time.monotonic() - begun
+            equal("how it ended", leave(folder), (0, f"lra: {folder.folder} is drained\n"))
+            equal("what is archived", folder.ended(), [instance_of(actions[0])])
+    check_sound(folder)
+    return f"{took:.1f} s, {len(codes)} starts refused"
 
 
 def test_nothing_is_begun_in_what_was_restored(setting):

@@ -229,11 +229,17 @@ def test_a_story_in_a_folder(setting):
 
 def test_a_folder_without_a_journal_is_a_fault(setting):
     place = Place(setting)
-    for verb in ("audit", "show"):
-        equal(verb, setting.run(verb, place.path), (2, "", f"lra: no journal in {place.path}\n"))
+    listings = (("list", *options) for options in ((), ("--now",), ("--waits",), ("--state", "Active", "--now")))
+    for verb, *options in (("audit",), ("show",), *listings):
+        told = setting.run(verb, place.path, *options)
+        equal(f"{verb} {options}", told, (2, "", f"lra: no journal in {place.path}\n"))
     place.put("notes", "")
     told = f"lra: {place.path}/notes is no journal\nlra: no journal in {place.path}\n"
-    equal("what is no journal", setting.run("audit", place.path), (2, "", told))
+    for verb in ("audit", "list"):
+        equal(f"what is no journal, by {verb}", setting.run(verb, place.path), (2, "", told))
+    place.remove("notes")
+    place.put("ended/a.journal", HEADER + "\n")
+    equal("one that was put away", setting.run("list", place.path), (0, "", ""))
 
 
 def drawn(setting, name):

@@ -141,6 +141,12 @@ impl<G: SyncGroup> Call<G> {
         self.began
     }
 
+    /// Returns how many addresses of its host didn't answer in time, if its time is up: those that were tried, unless
+    /// the last of them is connected.
+    pub(crate) fn passed(&self) -> usize {
+        if self.is_connected { 0 } else { self.tried }
+    }
+
     /// Directs the call to a host, and notes the moment at which it begins to connect.
     pub(crate) fn open_socket(&mut self, host: usize, now: u64)
         ensures { self.new.attempt.errand ≡ self.old.attempt.errand }
@@ -265,7 +271,7 @@ fn dial<R: Net>(rt: &R, rules: &Rules, is_proxied: bool, to: Target<'_>) -> Resu
     }
     match TcpStream::connect(rt, to.address) {
         Ok(stream) => Ok(stream),
-        Err(error) => Err(end_of(error.kind())),
+        Err(error) => Err(end_of(&error)),
     }
 }
 

@@ -459,7 +459,9 @@ impl<'a, R: Wait + Net + time::Clock, G: SyncGroup> Callbacks<'a, R, G> {
         let Some(call) = self.calls.get_mut(key) else {
             return;
         };
+        let passed = call.passed();
         if call.give_up(self.worker_quota.time_outs) {
+            self.socket_set.hosts.pass_over(call.host(), passed);
             self.socket_set.close(self.rt, self.quota, key, call.host());
             self.socket_set.end(key);
         }

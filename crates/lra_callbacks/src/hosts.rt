@@ -18,9 +18,11 @@ struct Host {
     socket: String,
     /// Its addresses; none while they aren't known.
     addresses: Vec<SocketAddr>,
+    /// Place of the address that is tried first: those before it come last.
+    first: usize,
     /// Moment until which they are valid, in milliseconds.
     until: u64,
-    /// Moment until which it waits for the look-up of its name, in milliseconds.
+    /// Moment until which it waits for the look-up of its name, in milliseconds; 0 while it waits for none.
     deadline: u64,
     /// Number of permits that it has, for its open sockets among them.
     permits: u32,
@@ -170,11 +172,18 @@ impl Hosts {
     /// Returns a host and port with one of its addresses, by their numbers.
     pub(crate) fn target(&self, number: usize, place: usize) -> Option<Target<'_>> {
         let host = self.hosts.get(number)?;
-        let address = host.addresses.get(place).copied()?;
+        let address = host.address(place)?;
         Some(Target {
             socket: host.socket.as_str(),
             address,
         })
+    }
+
+    /// Lets the next callback to a host begin behind as many addresses, since the last of these didn't answer in time.
+    pub(crate) fn pass_over(&mut self, number: usize, count: usize) {
+        if let Some(host) = self.hosts.get_mut(number) {
+            host.first = host.place_of(count);
+        }
     }
 
     /// Returns whether a host has to be polled soon: it waits for the look-up of its name, or memory was refused for a
@@ -294,6 +303,7 @@ impl Host {
         Host {
             socket,
             addresses: Vec::new(alloc),
+            first: 0,
             until: 0,
             deadline: 0,
             permits: 0,
@@ -303,6 +313,26 @@ impl Host {
             is_unknown: false,
             is_pending: false,
         }
+    }
+
+    /// Returns the place of an address by its number in the order in which the addresses are tried.
+    fn place_of(&self, number: usize) -> usize {
+        match self
+            .first
+            .saturating_add(number)
+            .checked_rem(self.addresses.len())
+        {
+            Some(place) => place,
+            None => 0,
+        }
+    }
+
+    /// Returns an address by its number in the order in which the addresses are tried, if there are so many.
+    fn address(&self, number: usize) -> Option<SocketAddr> {
+        if number >= self.addresses.len() {
+            return None;
+        }
+        self.addresses.get(self.place_of(number)).copied()
     }
 
     /// Returns whether nothing goes to the host or waits for it, and it waits for neither its name nor a permit.
@@ -362,9 +392,13 @@ impl Host {
             Found::Known(addresses, until) => {
                 self.addresses = addresses;
                 self.until = until;
+                self.deadline = 0;
                 Known::Yes
             }
-            Found::Missed => Known::No,
+            Found::Missed => {
+                self.deadline = 0;
+                Known::No
+            }
             Found::Asked => {
                 self.deadline = now.saturating_add(NAME_MS);
                 Known::NotYet

@@ -7,7 +7,7 @@ use lra_courier::CallFault;
 use lra_model::Outcome;
 use lra_outcomes::Reply;
 use lra_wire::WireFault;
-use std::io::ErrorKind;
+use std::io;
 
 /// End of a callback, as far as its socket shows.
 #[derive(Clone, Copy, PartialEq, Eq)]
@@ -87,18 +87,15 @@ pub(crate) fn reply_of(
     }
 }
 
-/// Returns the end of a callback whose socket couldn't be opened, by the system's error.
-pub(crate) fn end_of(kind: ErrorKind) -> End {
-    match kind {
-        ErrorKind::ConnectionRefused
-        | ErrorKind::ConnectionReset
-        | ErrorKind::ConnectionAborted
-        | ErrorKind::HostUnreachable
-        | ErrorKind::NetworkUnreachable
-        | ErrorKind::NetworkDown
-        | ErrorKind::AddrNotAvailable
-        | ErrorKind::PermissionDenied
-        | ErrorKind::TimedOut => End::NotConnected,
-        _ => End::NotSent,
+/// System's codes for want of memory, of files on the whole machine or in this process, and of room for sockets.
+const SCARCE: [i32; 4] = [12, 23, 24, 105];
+
+/// Returns the end of a callback whose socket couldn't be connected, by the system's error. Where the system has no
+/// file or no memory for a socket, that tells nothing of the member; any other error concerns its address.
+pub(crate) fn end_of(error: &io::Error) -> End {
+    match error.raw_os_error() {
+        Some(code) if SCARCE.contains(&code) => End::NotSent,
+        Some(_) => End::NotConnected,
+        None => End::NotSent,
     }
 }

@@ -4,7 +4,7 @@ use lra_admission::{KeyFiles, KeyStore, KeysFault, Name};
 use lra_files::SmallFault;
 use lra_ids::Base;
 use lra_operators_server::{PortFault, read_key};
-use lra_options::{Options, OptionsFault, RawOptions, Word};
+use lra_options::{Options, OptionsFault, RawOptions, Word, wrong};
 use lra_rules::{Rule, RuleFault, Rules};
 use lra_server::{AccessPolicy, keys_trouble};
 use lra_storage::{Fence, Fenced};
@@ -69,14 +69,6 @@ impl PolicyParts {
     }
 }
 
-/// Returns the fault with that text.
-pub(crate) fn wrong(text: Result<String, AllocError>) -> OptionsFault {
-    match text {
-        Ok(text) => OptionsFault::Wrong(text),
-        Err(_) => OptionsFault::Memory,
-    }
-}
-
 /// Returns the fault of a file of keys.
 fn keys_fault(alloc: Global, path: &str, fault: KeysFault) -> OptionsFault {
     if fault == KeysFault::Memory {
@@ -91,7 +83,7 @@ fn keys_fault(alloc: Global, path: &str, fault: KeysFault) -> OptionsFault {
 /// Reads the keys of the file that the options name, if they name one.
 fn keys_of<R: AllocGlobal + Files<File = File> + KeyFiles>(
     rt: &R,
-    said: &RawOptions,
+    said: &RawOptions<'_>,
 ) -> Result<Option<KeyStore>, OptionsFault> {
     let alloc = rt.alloc();
     let Some(path) = said.text(Word::Key) else {
@@ -106,7 +98,7 @@ fn keys_of<R: AllocGlobal + Files<File = File> + KeyFiles>(
 /// Returns the fence, which names the folder's owner, if the options name its file.
 fn fence_of<R: AllocGlobal + Fenced>(
     rt: &R,
-    said: &RawOptions,
+    said: &RawOptions<'_>,
 ) -> Result<Option<Arc<Fence>>, OptionsFault> {
     let alloc = rt.alloc();
     let Some(path) = said.text(Word::Fence) else {
@@ -127,12 +119,15 @@ fn fence_of<R: AllocGlobal + Fenced>(
 }
 
 /// Returns the names by which clients call the service.
-fn names_of(alloc: Global, said: &RawOptions) -> Result<Vec<Name>, OptionsFault> {
+fn names_of(alloc: Global, said: &RawOptions<'_>) -> Result<Vec<Name>, OptionsFault> {
     let mut names = Vec::new(alloc);
     for text in said.texts(alloc, Word::Origin)? {
         match Name::read(alloc, text) {
             Ok(Some(name)) => names.push(name)?,
-            Ok(None) => return Err(wrong(format!(in alloc; "--origin: no name: {text}"))),
+            Ok(None) => {
+                let what = format!(in alloc; "no name: {text}");
+                return Err(said.refused(alloc, Word::Origin, what));
+            }
             Err(_) => return Err(OptionsFault::Memory),
         }
     }
@@ -140,26 +135,35 @@ fn names_of(alloc: Global, said: &RawOptions) -> Result<Vec<Name>, OptionsFault>
 }
 
 /// Returns the rules for where members may be.
-fn rules_of(alloc: Global, said: &RawOptions) -> Result<Rules, OptionsFault> {
+fn rules_of(alloc: Global, said: &RawOptions<'_>) -> Result<Rules, OptionsFault> {
     let mut rules = Vec::new(alloc);
     for text in said.texts(alloc, Word::Members)? {
         match Rule::read(alloc, text) {
             Ok(rule) => rules.push(rule)?,
             Err(RuleFault::Memory) => return Err(OptionsFault::Memory),
-            Err(_) => return Err(wrong(format!(in alloc; "--members: no rule: {text}"))),
+            Err(_) => {
+                let what = format!(in alloc; "no rule: {text}");
+                return Err(said.refused(alloc, Word::Members, what));
+            }
         }
     }
     Ok(Rules::new(rules))
 }
 
 /// Returns the address of the proxy by which members are called, if the options name it.
-fn members_via_of(alloc: Global, said: &RawOptions) -> Result<Option<SocketAddr>, OptionsFault> {
+fn members_via_of(
+    alloc: Global,
+    said: &RawOptions<'_>,
+) -> Result<Option<SocketAddr>, OptionsFault> {
     let Some(text) = said.text(Word::MembersVia) else {
         return Ok(None);
     };
     match text.parse::<SocketAddr>() {
         Ok(address) if address.port() != 0 => Ok(Some(address)),
-        _ => Err(wrong(format!(in alloc; "--members-via: no IP address and port: {text}"))),
+        _ => {
+            let what = format!(in alloc; "no IP address and port: {text}");
+            Err(said.refused(alloc, Word::MembersVia, what))
+        }
     }
 }
 
@@ -196,11 +200,16 @@ fn token_in<R: AllocGlobal + Files<File = File> + KeyFiles>(
 }
 
 /// Returns a base with a token after it.
-fn base_with(alloc: Global, base: &str, token: &str) -> Result<Base, OptionsFault> {
+fn base_with(
+    alloc: Global,
+    said: &RawOptions<'_>,
+    base: &str,
+    token: &str,
+) -> Result<Base, OptionsFault> {
     let text = format!(in alloc; "{base}{token}/")?;
     match Base::read(alloc, text.as_str()) {
         Ok(Some(base)) => Ok(base),
-        Ok(None) => Err(wrong(format!(in alloc; "--token: no base: {base}"))),
+        Ok(None) => Err(said.refused(alloc, Word::Token, format!(in alloc; "no base: {base}"))),
         Err(_) => Err(OptionsFault::Memory),
     }
 }
@@ -226,10 +235,10 @@ fn base_of<R: AllocGlobal + Files<File = File> + KeyFiles>(
     };
     let token = token_in(rt, path)?;
     let base = match &options.base {
-        Some(base) => base_with(alloc, base.as_str(), token.as_str()),
+        Some(base) => base_with(alloc, &options.said, base.as_str(), token.as_str()),
         None => {
             let own = format!(in alloc; "http://{address}/")?;
-            base_with(alloc, own.as_str(), token.as_str())
+            base_with(alloc, &options.said, own.as_str(), token.as_str())
         }
     };
     drop(token);

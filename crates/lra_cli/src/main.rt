@@ -52,6 +52,9 @@ fn answer<
 where
     R::Reader: AsFd,
 {
+    if have_options(words) {
+        return answer_options(rt, words, watcher);
+    }
     match read_task(words) {
         Ok(Task::Question(question)) => answer_question(rt, question, watcher),
         Ok(Task::Play { script }) => answer_play(rt, script, watcher),
@@ -62,7 +65,6 @@ where
                 workers,
             },
         ) => answer_serve(rt, address, file, workers, watcher),
-        Err(_) if have_options(words) => answer_options(rt, words, watcher),
         Err(_) => answer_words(rt, words, watcher),
     }
 }

@@ -1,6 +1,6 @@
 //! The service of a journal, or of a folder of them.
 
-use crate::access_configuration::{AccessConfiguration, access_configuration_of, copy_base, wrong};
+use crate::access_configuration::{AccessConfiguration, access_configuration_of, copy_base};
 use crate::folder_serving::{check_folder_service, serve_folder_service};
 use crate::nowhere::warn_of_nowhere;
 use crate::reasons::{FaultLog, Unlogged, fail, log_unsound};
@@ -12,7 +12,7 @@ use lra_inspect::{report_misuse, standard_input};
 use lra_logs::{Format, LevelFilter, Logbook, has_priorities, level_named};
 use lra_opening::{NamedFile, Notifier, ServeFault, StandardErrorNotifier, fault_line};
 use lra_operators_server::{OperatorsServer, PortFault, port_line, read_key};
-use lra_options::{Options, OptionsFault, RawOptions, Word, read_options};
+use lra_options::{Options, OptionsFault, RawOptions, Word, read_options, wrong};
 use lra_reports::hint_line;
 use lra_server::{
     AccessPolicy, BoundAddress, LoggingNotifier, ServiceInput, bound_address_at, fit_descriptors,
@@ -21,7 +21,7 @@ use lra_server::{
 use lra_service::{ServiceOutcome, check_place, serve_with};
 use lra_settings::{Settings, taken_by_file};
 use lra_storage::{Fenced, Timed};
-use std::alloc::Global;
+use std::alloc::{AllocError, Global};
 use std::env::Env;
 use std::fs::{File, OpenOptions};
 use std::io;
@@ -124,25 +124,32 @@ fn put_flag<W: Write>(line: &str, is_said: bool, writer: &mut W) -> Result<(), S
     Ok(())
 }
 
+/// Returns the place of an option that needs a folder, if one is given.
+fn folder_option(alloc: Global, options: &Options<'_>) -> Result<Option<String>, AllocError> {
+    if options.drains {
+        Ok(Some(String::from_str(alloc, "--drain")?))
+    } else if options.is_restored {
+        Ok(Some(String::from_str(alloc, "--restored")?))
+    } else if options.said.text(Word::Fence).is_some() {
+        Ok(Some(options.said.place(alloc, Word::Fence)?))
+    } else {
+        Ok(None)
+    }
+}
+
 /// Returns a fault if an option that needs a folder is used with a file.
 fn require_folder<R: AllocGlobal + Files>(
     rt: &R,
     options: &Options<'_>,
 ) -> Result<(), OptionsFault> {
-    let option = if options.drains {
-        "drain"
-    } else if options.is_restored {
-        "restored"
-    } else if options.said.text(Word::Fence).is_some() {
-        "fence"
-    } else {
+    let Some(option) = folder_option(rt.alloc(), options)? else {
         return Ok(());
     };
     let file = options.file;
     if is_folder(rt, file) {
         Ok(())
     } else {
-        Err(wrong(format!(in rt.alloc(); "--{option}: {file} is no folder")))
+        Err(wrong(format!(in rt.alloc(); "{option}: {file} is no folder")))
     }
 }
 
@@ -267,21 +274,27 @@ fn report_port<
 /// Returns the log of a service, as its options say. It is off if they ask for none.
 fn logging_notifier_of<R: AllocGlobal + Env + Clone + Drop>(
     rt: &R,
-    said: &RawOptions,
+    said: &RawOptions<'_>,
 ) -> Result<LoggingNotifier<R>, OptionsFault> {
     let alloc = rt.alloc();
     let filter = match said.text(Word::Log) {
         None => LevelFilter::Off,
         Some(text) => match level_named(text.as_bytes()) {
             Some(level) => level.to_level_filter(),
-            None => return Err(unknown(alloc, Word::Log, text, "error, warn, info or debug")),
+            None => {
+                let what = format!(in alloc; "{text} is not error, warn, info or debug");
+                return Err(said.refused(alloc, Word::Log, what));
+            }
         },
     };
     let format = match said.text(Word::LogFormat) {
         None => Format::Text,
         Some(text) => match Format::from_name(text.as_bytes()) {
             Some(format) => format,
-            None => return Err(unknown(alloc, Word::LogFormat, text, "text or json")),
+            None => {
+                let what = format!(in alloc; "{text} is not text or json");
+                return Err(said.refused(alloc, Word::LogFormat, what));
+            }
         },
     };
     let has_priorities = has_priorities(rt, format);
@@ -291,12 +304,6 @@ fn logging_notifier_of<R: AllocGlobal + Env + Clone + Drop>(
         }),
         Err(_) => Err(OptionsFault::Memory),
     }
-}
-
-/// Returns the fault of a text that is none of those that an option may have.
-fn unknown(alloc: Global, word: Word, text: &str, those: &str) -> OptionsFault {
-    let name = word.name();
-    wrong(format!(in alloc; "--{name}: {text} is not {those}"))
 }
 
 /// Serves a file's coordinator. The watcher reports how far the journal has been read.

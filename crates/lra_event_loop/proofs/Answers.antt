@@ -232,7 +232,7 @@ module _ {S K : Type 0} (base_of : S → List ℕ) (responds : S → ℕ → Req
   }
 
   -- an iteration with no rest
-  pub rests_some : (v w : S) (k l : K) → AnsweredSome base_of responds tells v k w l
+  rests_some : (v w : S) (k l : K) → AnsweredSome base_of responds tells v k w l
       → AnsweredWithRests base_of responds rests tells v k w l
   rests_some v w k l a = record {
     turns = map Some a.1.turns ++ [];

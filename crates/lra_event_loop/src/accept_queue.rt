@@ -13,6 +13,9 @@ use std::sync::{Mutex, Wait};
 /// Key of the events of the accept queue. No client has that key.
 pub(crate) const WAKER: Token = Token(usize::MAX);
 
+/// Number of connections that wait in an accept queue at most, as long as the acceptor asks whether it is full.
+const MOST_WAITING: usize = 16;
+
 /// State of an accept queue: it accepts connections, or doesn't.
 #[derive(Clone, Copy, PartialEq, Eq)]
 pub(crate) enum AcceptState {
@@ -70,6 +73,13 @@ impl AcceptQueue {
         }
         let clients = self.clients.load(Ordering::SeqCst);
         clients.saturating_add(inner.streams.len() as u64)
+    }
+
+    /// Returns whether so many connections wait for the thread that no other is to be accepted for it yet: the system
+    /// keeps those that come meanwhile, and they take no descriptor.
+    pub fn is_full<R: Wait>(&self, rt: &R) -> bool {
+        let inner = self.inner.lock(rt);
+        inner.accept_state == AcceptState::Open && inner.streams.len() >= MOST_WAITING
     }
 
     /// Adds a connection to the queue, and wakes the thread. If memory is refused, or the queue accepts none any more,

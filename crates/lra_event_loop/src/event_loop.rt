@@ -82,7 +82,7 @@ struct Watch<'a, R> {
     rest_from: u64,
 }
 
-/// Lets the handler rest, if that is due after a quiet iteration.
+/// Lets the handler rest, if that is due: not more often than a wait may last at most, however busy the thread is.
 fn rest<A: Handler>(handler: &mut A, rest_from: &mut u64, now: u64)
     ensures { MayRest A.rests (A.sight handler.old) (A.sight handler.new) }
 {
@@ -195,6 +195,7 @@ impl<'a, R: Wait + time::Clock, G: SyncGroup> EventLoop<'a, R, G> {
     fn hand_out<P: WhichBase>(
         &self,
         iterations: &mut u32,
+        steady_clock: &mut SteadyClock<'a, R>,
         clients: &mut Clients<G, P>,
         is_quiet: bool,
         now: u64,
@@ -208,7 +209,8 @@ impl<'a, R: Wait + time::Clock, G: SyncGroup> EventLoop<'a, R, G> {
         if is_quiet || clients.all_wait() || *iterations >= MOST_ITERATIONS {
             *iterations = 0;
             clients.sync(self.rt, self.group);
-            clients.hand_out(self.rt, self.group, now);
+            // The time-outs that begin with these replies don't count how long the sync took.
+            clients.hand_out(self.rt, self.group, steady_clock.now());
         }
     }
 
@@ -224,15 +226,20 @@ impl<'a, R: Wait + time::Clock, G: SyncGroup> EventLoop<'a, R, G> {
             clients.call(usize::from(event.token()), event.is_read_closed());
         }
         clients.rest(watch.buffer.as_mut_slice(), now);
-        self.hand_out(&mut watch.iterations, clients, true, now);
+        self.hand_out(
+            &mut watch.iterations,
+            &mut watch.steady_clock,
+            clients,
+            true,
+            now,
+        );
         clients.end_late(now);
         let until = watch.until.unwrap_or(now.saturating_add(PARTING));
         watch.until = Some(until);
         now >= until || !clients.are_owed()
     }
 
-    /// Reads what came, answers the requests that are whole, and hands out the replies that may leave. Returns whether
-    /// nothing came, and no client was to be visited.
+    /// Reads what came, answers the requests that are whole, and hands out the replies that may leave.
     fn serve<A: Handler, K: Clock, P: WhichBase>(
         &self,
         loop_context: &LoopContext,
@@ -241,7 +248,7 @@ impl<'a, R: Wait + time::Clock, G: SyncGroup> EventLoop<'a, R, G> {
         handler: &mut A,
         clock: &mut K,
         now: u64,
-    ) -> bool
+    )
         requires { A.base_of (A.sight handler.old) ≡ P.base }
         ensures { AnsweredSome A.base_of A.responds K.tells (A.sight handler.old) clock.old (A.sight handler.new)
             clock.new }
@@ -259,9 +266,14 @@ impl<'a, R: Wait + time::Clock, G: SyncGroup> EventLoop<'a, R, G> {
         if clients.take_due() {
             self.wake_workers(before, &mut watch.turn);
         }
-        self.hand_out(&mut watch.iterations, clients, is_quiet, now);
+        self.hand_out(
+            &mut watch.iterations,
+            &mut watch.steady_clock,
+            clients,
+            is_quiet,
+            now,
+        );
         clients.end_late(now);
-        is_quiet
     }
 
     /// Runs one iteration. Returns why there is no other, if there is none.
@@ -292,9 +304,8 @@ impl<'a, R: Wait + time::Clock, G: SyncGroup> EventLoop<'a, R, G> {
                 .part(watch, clients, now)
                 .then_some(EventLoopEnd::Closed),
             AcceptState::Open => {
-                if self.serve(loop_context, watch, clients, handler, clock, now) {
-                    rest(handler, &mut watch.rest_from, now);
-                }
+                self.serve(loop_context, watch, clients, handler, clock, now);
+                rest(handler, &mut watch.rest_from, now);
                 None
             }
         }

@@ -263,6 +263,10 @@ impl<'a, R: Files<File = File> + AllocGlobal + Clone + Drop, V, H> FolderService
             storage: self.storage,
             opener,
             folder: self.folder,
+            threads: self
+                .workers
+                .saturating_add(1)
+                .saturating_add(self.operators_context.threads()),
         }
     }
 

@@ -31,6 +31,15 @@ pub(crate) struct OperatorsContext<'a> {
 }
 
 impl OperatorsContext<'_> {
+    /// Returns how many threads answer operators.
+    pub(crate) fn threads(&self) -> u32 {
+        if self.operators_server.is_some() {
+            1
+        } else {
+            0
+        }
+    }
+
     /// Returns the process statistics, if there is an operators' server.
     fn process_statistics(&self) -> ProcessStatistics {
         match self.operators_server {

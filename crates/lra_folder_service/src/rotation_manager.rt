@@ -49,8 +49,8 @@ pub(crate) struct RotationManager<'s, 'a, R, H, O, B> {
     retry: u64,
     /// Moment from which on a callback worker, if none could be started, is started again.
     thread_retry: u64,
-    /// Mark that the reason of the failure was reported.
-    has_reported: bool,
+    /// Action whose failure was reported last, unless a journal has been prepared since.
+    reported: Option<RotationAction>,
 }
 
 /// Returns the milliseconds of the steady clock, or 0 where it fails.
@@ -59,6 +59,18 @@ pub(crate) fn steady<R: Clock>(rt: &R) -> u64 {
         Ok(since) => u64::try_from(since.as_millis()).unwrap_or(u64::MAX),
         Err(_) => 0,
     }
+}
+
+/// Returns whether two actions are alike steps towards a next journal, whichever its instance is.
+fn are_alike(one: RotationAction, other: RotationAction) -> bool {
+    matches!(
+        (one, other),
+        (RotationAction::Note(_), RotationAction::Note(_))
+            | (RotationAction::Prepare(_), RotationAction::Prepare(_))
+            | (RotationAction::Name(_), RotationAction::Name(_))
+            | (RotationAction::Switch(_), RotationAction::Switch(_))
+            | (RotationAction::Remove(_), RotationAction::Remove(_))
+    )
 }
 
 /// Transfers to the rotation which versions the connection workers follow. One that memory is refused for counts as
@@ -93,7 +105,7 @@ impl<'s, 'a, R, H, O, B> RotationManager<'s, 'a, R, H, O, B> {
             gives_way: 0,
             retry: 0,
             thread_retry: 0,
-            has_reported: false,
+            reported: None,
         }
     }
 }
@@ -121,14 +133,15 @@ impl<'s, 'a, R, H, O, B: Drop> RotationManager<'s, 'a, R, H, O, B> {
 }
 
 impl<'s, 'a, R, H: Notifier, O, B> RotationManager<'s, 'a, R, H, O, B> {
-    /// Reports a fault, unless one was reported since the last journal was prepared, and schedules the next try.
-    fn notify(&mut self, fault: RollingFault, now: u64) {
+    /// Reports the fault of an action, unless one of an alike action was reported last, and schedules the next try.
+    fn notify(&mut self, fault: RollingFault, action: RotationAction, now: u64) {
         self.retry = now.saturating_add(RETRY);
-        if self.has_reported {
+        if let Some(reported) = self.reported
+            && are_alike(reported, action)
+        {
             drop(fault);
             return;
         }
-        self.has_reported = true;
         let journal_factory = &self.driver.journal_factory;
         let line = rolling_line(
             journal_factory.alloc,
@@ -138,6 +151,7 @@ impl<'s, 'a, R, H: Notifier, O, B> RotationManager<'s, 'a, R, H, O, B> {
         );
         if let Ok(line) = line {
             self.driver.notifier.notify(line.as_str());
+            self.reported = Some(action);
         }
     }
 }
@@ -218,7 +232,7 @@ impl<'s, 'a, R: Wait, H: Notifier, O, B: Drop> RotationManager<'s, 'a, R, H, O, 
     fn conclude(&mut self, folder_state: &FolderState<'_, 'a, R, H, B>, action: RotationAction) {
         self.is_published = false;
         match action {
-            RotationAction::Prepare(_) => self.has_reported = false,
+            RotationAction::Prepare(_) => self.reported = None,
             RotationAction::Fail => folder_state.close(),
             RotationAction::End => {
                 let journal_factory = &self.driver.journal_factory;
@@ -307,9 +321,9 @@ impl<
                 self.conclude(folder_state, action);
                 self.publish(folder_state.journal_registry)
             }
-            StepResult::Failed(_) => {
+            StepResult::Failed(action) => {
                 if let Some(fault) = self.driver.fault.take() {
-                    self.notify(fault, now);
+                    self.notify(fault, action, now);
                 }
                 false
             }

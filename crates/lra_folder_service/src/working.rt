@@ -128,6 +128,7 @@ pub(crate) fn work<
         },
     );
     let _writer = back;
-    let _manager = managed;
+    // No thread writes any more: what callbacks recorded after the end was asked for is logged too.
+    managed.driver.report();
     worked
 }

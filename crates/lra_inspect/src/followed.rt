@@ -1,6 +1,6 @@
 //! One journal that is followed, and what was reported of it.
 
-use crate::texts::{Lost, lost_line, sound_line};
+use crate::lost::{Lost, lost_line};
 use crate::watch::{Extent, PollResult, WatchedFile};
 use lra_auditor::FaultyLine;
 use lra_audits::{RunFault, put, report_fault, tell};
@@ -85,7 +85,7 @@ impl Followed {
         let Some(file_tail) = self.watch.file_tail() else {
             return Err(RunFault::Memory);
         };
-        let line = sound_line(self.alloc, file_tail.counts())?;
+        let line = file_tail.counts().sound_line(self.alloc)?;
         put(writer, self.front.as_bytes())?;
         put(writer, line.as_bytes())?;
         writer.flush().map_err(|_| RunFault::Write)

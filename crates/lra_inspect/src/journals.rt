@@ -1,7 +1,7 @@
 //! Journals of a folder, followed side by side.
 
 use crate::followed::Followed;
-use crate::texts::Lost;
+use crate::lost::Lost;
 use crate::watch::{Extent, PollResult, extent_of};
 use lra_audits::{RunFault, settle};
 use lra_model::Memory;

@@ -13,11 +13,11 @@ mod gauge;
 mod help;
 mod journals;
 mod listing;
+mod lost;
 mod misuse;
 mod program;
 mod questioning;
 mod reasons;
-mod texts;
 mod watch;
 
 pub use answers::{answer_play, answer_question, answer_words};

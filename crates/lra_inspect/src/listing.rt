@@ -3,7 +3,7 @@
 use crate::asking::ListOptions;
 use lra_audits::{RunFault, put, settle, tell};
 use lra_clocks::milliseconds;
-use lra_folders::{Found, find, is_folder, open_each, tell_others, width};
+use lra_folders::{Found, find, is_folder, open_each, tell_none, tell_others, width};
 use lra_model::Memory;
 use lra_reports::{Sources, System};
 use lra_timelines::{Choice, list_run};
@@ -129,6 +129,9 @@ fn list_found<R: AllocGlobal + Files<File = File> + Threads + Input + Print + Ep
     choice: &Choice,
 ) -> Result<u8, RunFault> {
     tell_others(rt, folder, &found.others);
+    if found.journals.is_empty() {
+        return Ok(tell_none(rt, folder));
+    }
     let mut greatest = 0;
     let mut rest = found.journals.as_slice();
     for _ in 0..rest.len() {

@@ -16,6 +16,8 @@ use Rattle.lra_wire.specs.Request.{Fields, Request}
 use Rattle.lra_operators.specs.declared.operation.Operation.{Operation}
 use Rattle.lra_operators.specs.declared.operation.Operation.TheVariants as operation
 use Rattle.lra_operators.specs.Operations.{is_order}
+use Rattle.lra_operators.specs.declared.route.Unserved.{Unserved}
+use Rattle.lra_operators.specs.Routes.{operation_of}
 use Rattle.lra_operators.specs.Forms.{form_value}
 
 -- whether there is a given text and a wanted one, and they are the same
@@ -154,3 +156,22 @@ admission_of s =
     else if s.is_order then order_admission s
     else if s.wants_key && not s.head_has_key then admission.WrongKey
     else admission.Admitted
+
+-- the operation that is served, or else a query
+abbrev pub served_or_query : Result Operation Unserved → Operation
+served_or_query (Ok o) = o
+served_or_query (Err unserved) = operation.Health
+
+-- the operation that a request is admitted for: the one of its route, or else a query, so that nobody who may ask
+-- nothing is told what isn't served (this project's choice)
+abbrev pub asked_for : Request → Operation
+asked_for request = served_or_query (operation_of request.method request.target)
+
+-- the code of the reply to a request by its admission, if it may not be made (RFC 9110, sections 15.5.2 and 15.5.4)
+abbrev pub denied_code : Admission → ℕ
+denied_code admission.Admitted = 200
+denied_code admission.WrongKey = 401
+denied_code admission.WrongHost = 403
+denied_code admission.Forged = 403
+denied_code admission.NeedsKey = 403
+denied_code admission.MistypedKey = 403

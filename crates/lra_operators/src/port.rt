@@ -4,7 +4,9 @@ ghost use Rattle.std.specs.Prelude.{◌≡◌, ◌⊎◌, true, false, [], ◌�
 ghost use Rattle.lra_wire.specs.Request.{request_of};
 ghost use Rattle.lra_front.specs.Listed.{has_code};
 ghost use Rattle.lra_operators.specs.declared.access.Admission.TheVariants as Admission;
-ghost use Rattle.lra_operators.specs.Access.{seen, admission_of};
+ghost use Rattle.lra_operators.specs.declared.operation.Operation.TheVariants.{Health};
+ghost use Rattle.lra_operators.specs.Access.{seen, admission_of, asked_for, denied_code};
+ghost use Rattle.lra_operators.specs.Denials.{IsDenied};
 ghost use Rattle.lra_operators.specs.Operations.{is_order, success};
 ghost use Rattle.lra_operators.specs.Orders.{Answers};
 ghost use Rattle.lra_operators.specs.inner.Targets.{Orders};
@@ -55,7 +57,9 @@ fn trouble_told(trouble: Trouble) -> (StatusCode, &'static str) {
 }
 
 /// Returns the status code and the word of the reply to a request by its admission.
-fn admission_told(admission: Admission) -> (StatusCode, &'static str) {
+fn admission_told(admission: Admission) -> (StatusCode, &'static str)
+    ensures { result.0 ≡ denied_code admission }
+{
     match admission {
         Admission::Admitted => (StatusCode::OK, "Admitted"),
         Admission::WrongKey => (StatusCode::UNAUTHORIZED, "WrongKey"),
@@ -231,7 +235,9 @@ impl Port {
     }
 
     /// Returns the reply that says why a request may not be made.
-    fn tell_denied(&self, admission: Admission) -> Result<Reply, Memory> {
+    fn tell_denied(&self, admission: Admission) -> Result<Reply, Memory>
+        ensures { IfOk result (λ reply. reply.status ≡ denied_code admission) }
+    {
         let (status, word) = admission_told(admission);
         let mut reply = one_text(self.alloc, status, "error", word)?;
         if admission == Admission::WrongKey {
@@ -267,14 +273,31 @@ impl Port {
         request: &RequestRead,
         operation: Operation,
     ) -> Result<Reply, Memory>
-        ensures { (O.orders overview.new ≡ O.orders overview.old)
+        ensures orders { (O.orders overview.new ≡ O.orders overview.old)
             ⊎ ((admission_of (seen access.now (request_of request.now) operation) ≡ Admission.Admitted)
             × Orders (string_bytes request.now.target) operation (O.orders overview.old) (O.orders overview.new)) }
+        ensures denied { IsDenied access.now (request_of request.now) operation result }
     {
         let admission = access.admit(self.alloc, request, operation)?;
         match admission {
             Admission::Admitted => self.respond_to(overview, access, request, operation),
             denied => self.tell_denied(denied),
+        }
+    }
+
+    /// Returns the reply to a request that has no route.
+    fn respond_unserved<O: Overview>(
+        &self,
+        overview: &O,
+        access: &Access<'_>,
+        request: &RequestRead,
+        unserved: Unserved,
+    ) -> Result<Reply, Memory>
+        ensures denied { IsDenied access.now (request_of request.now) Health result }
+    {
+        match access.admit(self.alloc, request, Operation::Health)? {
+            Admission::Admitted => self.tell_unserved(overview, request, unserved),
+            refused => self.tell_denied(refused),
         }
     }
 
@@ -286,13 +309,15 @@ impl Port {
         access: &Access<'_>,
         request: &RequestRead,
     ) -> Result<Reply, Memory>
-        ensures { Answers access.now (request_of request.now) (O.orders overview.old) (O.orders overview.new) }
+        ensures answers { Answers access.now (request_of request.now) (O.orders overview.old) (O.orders overview.new) }
+        // A request that may not be made is told just that, whether or not something is served at its target.
+        ensures denied { IsDenied access.now (request_of request.now) (asked_for (request_of request.now)) result }
     {
         let method = request.method.as_str();
         let target = request.target.as_str();
         match self.routes.operation(method, target) {
             Ok(operation) => self.respond(overview, access, request, operation),
-            Err(unserved) => self.tell_unserved(overview, request, unserved),
+            Err(unserved) => self.respond_unserved(overview, access, request, unserved),
         }
     }
 

@@ -1,6 +1,7 @@
 //! A filter that tallies requests.
 
 ghost use Rattle.std.specs.Prelude.{◌≡◌};
+ghost use Rattle.lra_operators_server.specs.Stops.{has_stopped};
 
 use crate::tallies::Tallies;
 use lra_commands::Refusal;
@@ -18,9 +19,16 @@ pub struct CountingHandler<'a, A, R> {
     tallies: &'a Tallies,
 }
 
-/// Returns whether an answer says that the coordinator has stopped.
-fn has_stopped(answer: Answer) -> bool {
-    matches!(answer, Answer::Denied(ApiError::Refused(Refusal::Stopped)))
+/// Returns whether a coordinator was asked, and says that it has stopped. A journal set that can't answer for a journal
+/// yet refuses with the same word, and asks no coordinator.
+pub fn has_stopped(answered: &Answered) -> bool
+    ensures { result ≡ has_stopped answered.now }
+{
+    answered.position.is_some()
+        && matches!(
+            answered.answer,
+            Answer::Denied(ApiError::Refused(Refusal::Stopped))
+        )
 }
 
 impl<'a, A, R> CountingHandler<'a, A, R> {
@@ -72,7 +80,7 @@ impl<A: Handler, R: Clock> Handler for CountingHandler<'_, A, R> {
             answered.answer.status(),
             began,
         );
-        if has_stopped(answered.answer) {
+        if has_stopped(&answered) {
             self.tallies.stop(answered.instance);
         }
         answered

@@ -19,7 +19,7 @@ mod tallies;
 mod token;
 
 pub use carried::CountingCallbackPool;
-pub use counted::CountingHandler;
+pub use counted::{CountingHandler, has_stopped};
 pub use fault::{PortFault, port_line};
 pub use given::{Given, operators_order};
 pub use key::read_key;

@@ -15,14 +15,14 @@ const LONGEST: u32 = 65_536;
 
 /// Settings and texts of a file.
 #[derive(Drop)]
-pub(crate) struct Config {
+pub(crate) struct Config<'a> {
     pub(crate) given: Given,
-    pub(crate) said: RawOptions,
+    pub(crate) said: RawOptions<'a>,
 }
 
-impl Config {
-    /// Returns the contents of a file that gives nothing.
-    pub(crate) fn nothing(alloc: Global) -> Config {
+impl<'a> Config<'a> {
+    /// Returns the settings where no file is named.
+    pub(crate) fn nothing(alloc: Global) -> Config<'a> {
         Config {
             given: Given::nothing(),
             said: RawOptions::nothing(alloc),
@@ -88,7 +88,7 @@ fn note_texts(
     place: &str,
     word: Word,
     value: &Value,
-    said: &mut RawOptions,
+    said: &mut RawOptions<'_>,
 ) -> Result<(), OptionsFault> {
     let Some(values) = value.as_array() else {
         return Err(wrong(format!(in alloc; "{place}: no list")));
@@ -113,7 +113,7 @@ fn note_other(
     place: &str,
     key: &str,
     value: &Value,
-    config: &mut Config,
+    config: &mut Config<'_>,
 ) -> Result<(), OptionsFault> {
     if key == "stop-at-eof" {
         config.given.stop_at_eof = Some(truth_of(alloc, place, value)?);
@@ -135,7 +135,7 @@ fn note(
     name: &str,
     key: &str,
     value: &Value,
-    config: &mut Config,
+    config: &mut Config<'_>,
 ) -> Result<(), OptionsFault> {
     let place = format!(in alloc; "{name}: {key}")?;
     if let Some(parameter) = Parameter::from_name(key) {
@@ -147,14 +147,17 @@ fn note(
 }
 
 /// Reads a file of settings.
-pub(crate) fn read_config<R: Files>(
+pub(crate) fn read_config<'a, R: Files>(
     rt: &R,
     alloc: Global,
-    name: &str,
-) -> Result<Config, OptionsFault> {
+    name: &'a str,
+) -> Result<Config<'a>, OptionsFault> {
     let bytes = read_file(rt, alloc, name)?;
     let table = table_of(alloc, name, bytes.as_slice())?;
-    let mut config = Config::nothing(alloc);
+    let mut config = Config {
+        given: Given::nothing(),
+        said: RawOptions::of_config(alloc, name),
+    };
     for (key, value) in &table {
         note(alloc, name, key.as_str(), value, &mut config)?;
     }

@@ -1,7 +1,7 @@
 //! Reasons why options are refused.
 
-ghost use Rattle.std.specs.Prelude.{◌≡◌};
-ghost use Rattle.lra_options.specs.declared.fault.OptionsFault.TheVariants.{Memory};
+ghost use Rattle.std.specs.Prelude.{◌≡◌, IfErr, IfOk};
+ghost use Rattle.lra_options.specs.declared.fault.OptionsFault.TheVariants.{Memory, Wrong};
 
 use std::alloc::{AllocError, AllocFailed, Global};
 use thiserror::Error;
@@ -52,7 +52,10 @@ pub(crate) fn one_line(alloc: Global, text: &str) -> Result<String, AllocError> 
 }
 
 /// Returns the fault with that text, or the one of memory where there is no memory for it.
-pub(crate) fn wrong(text: Result<String, AllocError>) -> OptionsFault {
+pub fn wrong(text: Result<String, AllocError>) -> OptionsFault
+    ensures ok { IfOk text (λ told. result ≡ Wrong told) }
+    ensures err { IfErr text (λ _. result ≡ Memory) }
+{
     match text {
         Ok(text) => OptionsFault::Wrong(text),
         Err(_) => OptionsFault::Memory,

@@ -9,6 +9,6 @@ mod number;
 mod options;
 mod said;
 
-pub use fault::OptionsFault;
+pub use fault::{OptionsFault, wrong};
 pub use options::{Options, read_options};
 pub use said::{RawOptions, Word};

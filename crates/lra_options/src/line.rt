@@ -19,7 +19,7 @@ pub(crate) struct Line<'a> {
     pub(crate) workers: u32,
     /// File with further settings, if one is named.
     pub(crate) config: Option<&'a str>,
-    pub(crate) said: RawOptions,
+    pub(crate) said: RawOptions<'a>,
     /// Mark that a folder accepts no more starts, and is served until all its work is done.
     pub(crate) drains: bool,
     /// Mark that a folder was restored from a copy.
@@ -243,7 +243,7 @@ fn note_texts(
     alloc: Global,
     matches: &ArgMatches<'_>,
     word: Word,
-    said: &mut RawOptions,
+    said: &mut RawOptions<'_>,
 ) -> Result<(), AllocError> {
     if let Some(texts) = matches.get_strs(word.name()) {
         for text in texts {
@@ -254,7 +254,7 @@ fn note_texts(
 }
 
 /// Returns the values of the options that are texts.
-fn said_in(alloc: Global, matches: &ArgMatches<'_>) -> Result<RawOptions, AllocError> {
+fn said_in<'a>(alloc: Global, matches: &ArgMatches<'a>) -> Result<RawOptions<'a>, AllocError> {
     let mut said = RawOptions::nothing(alloc);
     for word in &Word::ALL {
         if word.is_list() {

@@ -9,7 +9,7 @@ use crate::line::{Line, read_line};
 use crate::said::{RawOptions, Word};
 use lra_ids::Base;
 use lra_settings::{Given, Settings, settings_of};
-use std::alloc::{AllocError, Global};
+use std::alloc::Global;
 use std::rt::Files;
 
 /// Service to be run, and its settings.
@@ -26,7 +26,7 @@ pub struct Options<'a> {
     /// counts.
     pub also_bases: Vec<Base>,
     /// Values of the options that are texts.
-    pub said: RawOptions,
+    pub said: RawOptions<'a>,
     /// Mark that a folder accepts no more starts, and is served until all its work is done.
     pub drains: bool,
     /// Mark that a folder was restored from a copy. The journals that it has accept no new work.
@@ -49,11 +49,11 @@ fn fit_settings(alloc: Global, line: &Given, file: &Given) -> Result<Settings, O
 }
 
 /// Reads the file that a line names, if it names one.
-fn config_of<R: Files>(
+fn config_of<'a, R: Files>(
     rt: &R,
     alloc: Global,
-    config: Option<&str>,
-) -> Result<Config, OptionsFault> {
+    config: Option<&'a str>,
+) -> Result<Config<'a>, OptionsFault> {
     match config {
         Some(name) => read_config(rt, alloc, name),
         None => Ok(Config::nothing(alloc)),
@@ -69,23 +69,9 @@ fn base_in(alloc: Global, place: &str, text: &str) -> Result<Base, OptionsFault>
     }
 }
 
-/// Returns the place of an option for a fault: the option on the command line, or the file and its key.
-fn place_of(alloc: Global, word: Word, config: Option<&str>) -> Result<String, AllocError> {
-    let name = word.name();
-    match config {
-        Some(file) => format!(in alloc; "{file}: {name}"),
-        None => format!(in alloc; "--{name}"),
-    }
-}
-
-/// Reads the bases that an option has on the command line, or in that file.
-fn bases_in(
-    alloc: Global,
-    said: &RawOptions,
-    word: Word,
-    config: Option<&str>,
-) -> Result<Vec<Base>, OptionsFault> {
-    let place = place_of(alloc, word, config)?;
+/// Reads the bases that an option has in one source.
+fn bases_in(alloc: Global, said: &RawOptions<'_>, word: Word) -> Result<Vec<Base>, OptionsFault> {
+    let place = said.place(alloc, word)?;
     let mut bases = Vec::new(alloc);
     for text in said.texts(alloc, word)? {
         bases.push(base_in(alloc, place.as_str(), text)?)?;
@@ -96,15 +82,15 @@ fn bases_in(
 /// Reads the bases that an option has on the command line, or else in the file.
 fn bases_of(
     alloc: Global,
-    line: &Line<'_>,
-    file: &RawOptions,
+    line: &RawOptions<'_>,
+    file: &RawOptions<'_>,
     word: Word,
 ) -> Result<Vec<Base>, OptionsFault> {
-    let bases = bases_in(alloc, &line.said, word, None)?;
+    let bases = bases_in(alloc, line, word)?;
     if !bases.is_empty() {
         return Ok(bases);
     }
-    bases_in(alloc, file, word, line.config)
+    bases_in(alloc, file, word)
 }
 
 /// Returns the service and its settings from a command line and the file that it names.
@@ -117,8 +103,8 @@ fn options_of<'a, R: Files>(
 {
     let file = config_of(rt, alloc, line.config)?;
     let settings = fit_settings(alloc, &line.given, &file.given)?;
-    let base = bases_of(alloc, &line, &file.said, Word::Base)?.pop();
-    let also_bases = bases_of(alloc, &line, &file.said, Word::AlsoBase)?;
+    let base = bases_of(alloc, &line.said, &file.said, Word::Base)?.pop();
+    let also_bases = bases_of(alloc, &line.said, &file.said, Word::AlsoBase)?;
     let Line {
         address,
         file: name,

@@ -1,5 +1,6 @@
 //! Options whose values are texts, and their values.
 
+use crate::fault::{OptionsFault, wrong};
 use std::alloc::{AllocError, Global};
 
 /// An option whose value is a text.
@@ -126,28 +127,45 @@ impl Word {
 
 /// A value of an option.
 #[derive(Drop)]
-struct RawOption {
+struct RawOption<'a> {
     word: Word,
     text: String,
+    /// File of settings that gives the value, unless the command line does.
+    config: Option<&'a str>,
 }
 
-/// Values of the options that are texts, from one source.
+/// Values of the options that are texts, from the command line, from a file of settings, or from both.
 #[derive(Drop)]
-pub struct RawOptions {
-    sayings: Vec<RawOption>,
+pub struct RawOptions<'a> {
+    sayings: Vec<RawOption<'a>>,
+    /// File of settings that gives the values that are added, unless the command line does.
+    config: Option<&'a str>,
 }
 
-impl RawOptions {
-    /// Returns no values.
-    pub fn nothing(alloc: Global) -> RawOptions {
+impl<'a> RawOptions<'a> {
+    /// Returns no values of the command line.
+    pub fn nothing(alloc: Global) -> RawOptions<'a> {
         RawOptions {
             sayings: Vec::new(alloc),
+            config: None,
+        }
+    }
+
+    /// Returns no values of a file of settings.
+    pub(crate) fn of_config(alloc: Global, config: &'a str) -> RawOptions<'a> {
+        RawOptions {
+            sayings: Vec::new(alloc),
+            config: Some(config),
         }
     }
 
     /// Adds a value of an option.
     pub(crate) fn add(&mut self, word: Word, text: String) -> Result<(), AllocError> {
-        self.sayings.push(RawOption { word, text })?;
+        self.sayings.push(RawOption {
+            word,
+            text,
+            config: self.config,
+        })?;
         Ok(())
     }
 
@@ -177,8 +195,47 @@ impl RawOptions {
         Ok(texts)
     }
 
+    /// Returns the file of settings that gives the first value of an option, unless the command line does.
+    fn config_of(&self, word: Word) -> Option<&'a str> {
+        for saying in &self.sayings {
+            if saying.word == word {
+                return saying.config;
+            }
+        }
+        None
+    }
+
+    /// Returns the place of an option's first value for a fault: the option on the command line, or the file of
+    /// settings and the option's key.
+    pub fn place(&self, alloc: Global, word: Word) -> Result<String, AllocError> {
+        let name = word.name();
+        match self.config_of(word) {
+            Some(file) => format!(in alloc; "{file}: {name}"),
+            None => format!(in alloc; "--{name}"),
+        }
+    }
+
+    /// Returns the line about an option's first value: its place, and what is wrong with it.
+    fn line(&self, alloc: Global, word: Word, what: &str) -> Result<String, AllocError> {
+        let place = self.place(alloc, word)?;
+        format!(in alloc; "{place}: {what}")
+    }
+
+    /// Returns the fault of an option's first value, by what is wrong with it.
+    pub fn refused(
+        &self,
+        alloc: Global,
+        word: Word,
+        what: Result<String, AllocError>,
+    ) -> OptionsFault {
+        match what {
+            Ok(what) => wrong(self.line(alloc, word, what.as_str())),
+            Err(_) => OptionsFault::Memory,
+        }
+    }
+
     /// Adds another source's values of each option that has none here.
-    fn add_others(&mut self, other: RawOptions) -> Result<(), AllocError> {
+    fn add_others(&mut self, other: RawOptions<'a>) -> Result<(), AllocError> {
         let mut missing = RawOptions::nothing(*self.sayings.allocator());
         for saying in other.sayings {
             if !self.has(saying.word) {
@@ -192,7 +249,7 @@ impl RawOptions {
     }
 
     /// Returns the values of the command line, and the file's values of the options that the line doesn't give.
-    pub(crate) fn or(self, file: RawOptions) -> Result<RawOptions, AllocError> {
+    pub(crate) fn or(self, file: RawOptions<'a>) -> Result<RawOptions<'a>, AllocError> {
         let mut said = self;
         match said.add_others(file) {
             Ok(()) => Ok(said),

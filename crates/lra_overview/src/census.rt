@@ -4,9 +4,9 @@ ghost use Rattle.std.specs.Prelude.{◌≡◌};
 
 use crate::faults::Trouble;
 use crate::overview::Overview;
-use crate::shares::{NONE, Shares, add, add_shares, count_ended, count_ending};
+use crate::shares::{NONE, Shares, add, add_shares, count_ended, count_ending, count_failed};
 use crate::untold::Telling;
-use lra_commands::{Listing, Query, QueryResult};
+use lra_commands::{Listing, Query, QueryResult, Row};
 use lra_ids::Instance;
 use lra_model::ActionStatus;
 use std::alloc::Global;
@@ -25,18 +25,31 @@ const ASKED: [ActionStatus; 7] = [
     ActionStatus::FailedToCancel,
 ];
 
-/// Counts of a journal's actions. A stretch in which all actions have ended is counted once. The others are counted
-/// again each time.
+/// Stretch in which some actions may still change.
+#[derive(Clone, Copy)]
+struct OpenStretch {
+    /// Place where it begins.
+    place: u64,
+    /// Flag, set if an action in it is known to be nested in another. It may have closed, and be cancelled with that
+    /// one.
+    is_nested: bool,
+}
+
+/// Counts of a journal's actions. A stretch in which no action can change any more is counted once: all have ended, and
+/// none is nested in one of a stretch before it that may change. The others are counted again each time.
 #[derive(Drop)]
 pub struct Census {
-    /// Places where the stretches begin in which some actions haven't ended.
-    open: Vec<u64>,
+    /// Stretches in which some actions may still change, in their order.
+    open: Vec<OpenStretch>,
     /// Places where the stretches begin in which some actions were closing or cancelling at the last count.
     ending: Vec<u64>,
     /// Place from which on no stretch is whole, or none was counted.
     behind: u64,
     /// Numbers of actions of each status, in stretches that aren't open.
     ended: Shares,
+    /// Number of actions that had ended as failed by the last count, and the number of times that one was found to.
+    failed: u64,
+    failures: u64,
     /// Counts of the members that are still to be told how their action ended.
     telling: Telling,
 }
@@ -120,6 +133,53 @@ fn count_stretch<O: Overview>(
     })
 }
 
+/// Returns whether an action of a whole stretch is nested in another.
+fn has_nested<O: Overview>(
+    overview: &mut O,
+    instance: Instance,
+    place: u64,
+) -> Result<bool, Trouble>
+    ensures { O.orders overview.new ≡ O.orders overview.old }
+{
+    let of = Listing::Actions { status: None };
+    for row in 0..STRETCH {
+        let place = place.saturating_add(row);
+        match overview.query(instance, Query::Row { of, place })? {
+            QueryResult::Row {
+                row: Row::Action {
+                    parent: Some(_),
+                    ..
+                },
+                ..
+            } => return Ok(true),
+            QueryResult::Row { .. } => {}
+            _ => return Ok(false),
+        }
+    }
+    Ok(false)
+}
+
+impl OpenStretch {
+    /// Returns whether an action of the stretch may still change, though all have ended: one is nested, and `is_first`
+    /// doesn't say that all actions before the stretch have ended for good.
+    fn may_change<O: Overview>(
+        &mut self,
+        overview: &mut O,
+        instance: Instance,
+        is_first: bool,
+    ) -> Result<bool, Trouble>
+        ensures { O.orders overview.new ≡ O.orders overview.old }
+    {
+        if is_first {
+            return Ok(false);
+        }
+        if !self.is_nested {
+            self.is_nested = has_nested(overview, instance, self.place)?;
+        }
+        Ok(self.is_nested)
+    }
+}
+
 impl Census {
     /// Makes a census that has counted nothing.
     pub fn new(alloc: Global) -> Census {
@@ -128,11 +188,14 @@ impl Census {
             ending: Vec::new(alloc),
             behind: 0,
             ended: NONE,
+            failed: 0,
+            failures: 0,
             telling: Telling::new(alloc),
         }
     }
 
-    /// Counts the open stretches again. Those whose actions have all ended become closed, and aren't counted again.
+    /// Counts the open stretches again. Those whose actions have all ended for good become closed, and aren't counted
+    /// again.
     fn count_open<O: Overview>(
         &mut self,
         overview: &mut O,
@@ -143,18 +206,18 @@ impl Census {
     {
         let mut kept: usize = 0;
         for at in 0..self.open.len() {
-            let Some(place) = self.open.get(at).copied() else {
+            let Some(mut open) = self.open.get(at).copied() else {
                 return Ok(());
             };
-            let stretch = count_stretch(overview, instance, place)?;
-            if stretch.is_over() {
+            let stretch = count_stretch(overview, instance, open.place)?;
+            if stretch.is_over() && !open.may_change(overview, instance, kept == 0)? {
                 add_shares(&mut self.ended, &stretch.shares);
                 continue;
             }
-            self.note_ending(place, &stretch)?;
+            self.note_ending(open.place, &stretch)?;
             add_shares(shares, &stretch.shares);
             if let Some(slot) = self.open.get_mut(kept) {
-                *slot = place;
+                *slot = open;
             }
             kept = kept.saturating_add(1);
         }
@@ -171,11 +234,24 @@ impl Census {
     }
 
     /// Notes a stretch that is whole. Adds its counts to `shares` if they may still change.
-    fn note(&mut self, place: u64, stretch: &Stretch, shares: &mut Shares) -> Result<(), Trouble> {
-        if stretch.is_over() {
+    fn note<O: Overview>(
+        &mut self,
+        overview: &mut O,
+        instance: Instance,
+        place: u64,
+        stretch: &Stretch,
+        shares: &mut Shares,
+    ) -> Result<(), Trouble>
+        ensures { O.orders overview.new ≡ O.orders overview.old }
+    {
+        let mut open = OpenStretch {
+            place,
+            is_nested: false,
+        };
+        if stretch.is_over() && !open.may_change(overview, instance, self.open.is_empty())? {
             add_shares(&mut self.ended, &stretch.shares);
         } else {
-            self.open.push(place)?;
+            self.open.push(open)?;
             add_shares(shares, &stretch.shares);
         }
         Ok(())
@@ -198,7 +274,7 @@ impl Census {
                 add_shares(shares, &stretch.shares);
                 return Ok(());
             };
-            self.note(place, &stretch, shares)?;
+            self.note(overview, instance, place, &stretch, shares)?;
             self.behind = next;
         }
         Ok(())
@@ -217,7 +293,20 @@ impl Census {
         self.count_open(overview, instance, &mut shares)?;
         self.count_behind(overview, instance, &mut shares)?;
         add_shares(&mut shares, &self.ended);
+        self.note_failed(count_failed(&shares));
         Ok(shares)
+    }
+
+    /// Notes how many actions have ended as failed now. One that had may be cancelled since with the action above it.
+    fn note_failed(&mut self, failed: u64) {
+        let found = failed.saturating_sub(self.failed);
+        self.failures = self.failures.saturating_add(found);
+        self.failed = failed;
+    }
+
+    /// Returns how many times an action was found to have ended as failed. It never decreases.
+    pub(crate) fn failures(&self) -> u64 {
+        self.failures
     }
 
     /// Counts the actions that have each status now. If that fails, the next count starts from the first action.
@@ -259,9 +348,9 @@ impl Census {
         if from >= self.behind {
             return from;
         }
-        for place in self.open.as_slice() {
-            if place.saturating_add(STRETCH) > from {
-                return from.max(*place);
+        for open in self.open.as_slice() {
+            if open.place.saturating_add(STRETCH) > from {
+                return from.max(open.place);
             }
         }
         self.behind

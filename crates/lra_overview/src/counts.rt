@@ -6,7 +6,7 @@ use crate::census::Census;
 use crate::faults::Trouble;
 use crate::overdue::{Overdue, count_overdue};
 use crate::overview::Overview;
-use crate::shares::{NONE, Shares, add_shares, count_failed};
+use crate::shares::{NONE, Shares, add_shares};
 use crate::unended::list_unended;
 use lra_commands::{CounterFault, Query, QueryResult, Refusal};
 use lra_ids::Instance;
@@ -28,6 +28,8 @@ pub struct Counts {
     pub overdue: Overdue,
     /// Number of members that are still to be told how their action ended.
     pub untold: u64,
+    /// Number of times that an action was found to have ended as failed.
+    pub failures: u64,
 }
 
 impl Counts {
@@ -40,6 +42,7 @@ impl Counts {
             oldest: None,
             overdue: Overdue::none(),
             untold: 0,
+            failures: 0,
         }
     }
 
@@ -50,6 +53,7 @@ impl Counts {
         self.members = self.members.saturating_add(others.members);
         self.overdue.add(&others.overdue);
         self.untold = self.untold.saturating_add(others.untold);
+        self.failures = self.failures.saturating_add(others.failures);
     }
 }
 
@@ -62,7 +66,8 @@ pub fn grown(base: u64, current: u64) -> u64
     base.saturating_add(current)
 }
 
-/// Total numbers of actions and members that there ever were, and of actions that ended as failed, of some journals.
+/// Total numbers of actions and members that there ever were, and of times that an action was found to have ended as
+/// failed, of some journals.
 /// They never decrease.
 #[derive(Clone, Copy)]
 pub struct Totals {
@@ -91,7 +96,7 @@ impl Totals {
     {
         self.actions = grown(self.actions, counts.actions);
         self.members = grown(self.members, counts.members);
-        self.failed = grown(self.failed, count_failed(&counts.shares));
+        self.failed = grown(self.failed, counts.failures);
     }
 }
 
@@ -171,5 +176,6 @@ pub fn count_all<O: Overview>(
         oldest,
         overdue,
         untold,
+        failures: census.failures(),
     })
 }

@@ -28,9 +28,9 @@ enum Looked {
     Missing,
     /// No query is left for this count. The next count goes on from there.
     Cut,
-    /// The action has ended, and each of its members knows.
+    /// The action has ended, with the outermost one above it, and each of its members knows.
     Done,
-    /// The action hasn't ended, or so many of its members are untold.
+    /// The action or the outermost one above it hasn't ended, or so many of its members are untold.
     Open(u64),
 }
 
@@ -111,7 +111,43 @@ impl Look {
         }
     }
 
-    /// Reads the action at a place, and its members if it has ended.
+    /// Reads the actions above one, from its parent on. Returns whether all of them have ended, if queries were left to
+    /// find that out: the members of an action are told how it ended only then.
+    fn have_ended<O: Overview>(
+        &mut self,
+        overview: &mut O,
+        instance: Instance,
+        parent: Option<u64>,
+    ) -> Result<Option<bool>, Trouble>
+        ensures { O.orders overview.new ≡ O.orders overview.old }
+    {
+        let of = Listing::Actions { status: None };
+        let mut next = parent;
+        for _level in 0..u64::MAX {
+            let Some(action) = next else {
+                return Ok(Some(true));
+            };
+            if !self.take() {
+                return Ok(None);
+            }
+            let place = action.saturating_sub(1);
+            match overview.query(instance, Query::Row { of, place })? {
+                QueryResult::Row {
+                    row: Row::Action { status, parent, .. },
+                    ..
+                } => {
+                    if !status.has_ended() {
+                        return Ok(Some(false));
+                    }
+                    next = parent;
+                }
+                _ => return Ok(Some(true)),
+            }
+        }
+        Ok(Some(true))
+    }
+
+    /// Reads the action at a place, and its members if it has ended, with the outermost one above it.
     fn look<O: Overview>(
         &mut self,
         overview: &mut O,
@@ -126,11 +162,20 @@ impl Look {
         let of = Listing::Actions { status: None };
         match overview.query(instance, Query::Row { of, place })? {
             QueryResult::Row {
-                row: Row::Action { action, status, .. },
+                row: Row::Action {
+                    action,
+                    status,
+                    parent,
+                },
                 ..
             } => {
                 if !status.has_ended() {
                     return Ok(Looked::Open(0));
+                }
+                match self.have_ended(overview, instance, parent)? {
+                    Some(true) => {}
+                    Some(false) => return Ok(Looked::Open(0)),
+                    None => return Ok(Looked::Cut),
                 }
                 if !self.add_members(overview, instance, action)? {
                     return Ok(Looked::Cut);
@@ -150,7 +195,8 @@ struct Kept {
     untold: u64,
 }
 
-/// Counts of the members that are untold. An action that has ended, and of which each member knows, is read only once.
+/// Counts of the members that are untold. An action that has ended, with the outermost one above it, and of which each
+/// member knows, is read only once.
 #[derive(Drop)]
 pub(crate) struct Telling {
     /// Other actions that were read.

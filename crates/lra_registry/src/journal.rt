@@ -12,6 +12,15 @@ use std::net::Net;
 use std::sync::atomic::{AtomicBool, AtomicU64, Ordering};
 use std::sync::{Arc, Mutex, Wait};
 
+/// Sessions of a journal's coordinator that no thread has.
+#[derive(Drop)]
+struct Sessions<B> {
+    /// Session from which others are forked. It is `None` once the coordinator has ended.
+    first: Option<B>,
+    /// Sessions whose clerks were enrolled ahead.
+    ahead: Vec<B>,
+}
+
 /// One served journal of a folder, with the session `B` of its coordinator.
 #[derive(Drop)]
 pub struct ServedJournal<B> {
@@ -19,8 +28,8 @@ pub struct ServedJournal<B> {
     pub file: Arc<JournalFile>,
     /// Number of entries that the journal had when it was opened.
     entries: u64,
-    /// Session with a clerk, from which each thread forks its own. It is `None` once the coordinator has ended.
-    session: Mutex<Option<B>>,
+    /// Sessions from which each thread gets its own.
+    sessions: Mutex<Sessions<B>>,
     /// Worker slot of the journal's callback worker.
     pub worker_slot: WorkerSlot,
     /// Wakers of the journal's callback worker.
@@ -67,7 +76,10 @@ impl<B: JournalSession + Drop> ServedJournal<B> {
             instance,
             file,
             entries,
-            session: Mutex::new(Some(session)),
+            sessions: Mutex::new(Sessions {
+                first: Some(session),
+                ahead: Vec::new(alloc),
+            }),
             worker_slot,
             wakers,
             outcomes: Outcomes::new(alloc),
@@ -77,27 +89,51 @@ impl<B: JournalSession + Drop> ServedJournal<B> {
         })
     }
 
-    /// Enrols another clerk of the journal's coordinator, if one can be enrolled.
+    /// Enrols so many clerks of the journal's coordinator ahead. Returns whether all are enrolled: then as many threads
+    /// get a session later, whether or not anything can be written by then.
+    pub fn enrol_ahead<R: Wait>(&self, rt: &R, count: u32, moment: u64) -> bool {
+        let mut sessions = self.sessions.lock(rt);
+        for _clerk in 0..count {
+            let Some(first) = &mut sessions.first else {
+                return false;
+            };
+            let Some(session) = first.fork(moment) else {
+                return false;
+            };
+            if sessions.ahead.push(session).is_err() {
+                return false;
+            }
+        }
+        true
+    }
+
+    /// Returns a session with a clerk of its own: one that was enrolled ahead, if any is left, or else one that is
+    /// enrolled now, if it can be.
     pub fn fork<R: Wait>(&self, rt: &R, moment: u64) -> Option<B> {
-        self.session.lock(rt).as_mut()?.fork(moment)
+        let mut sessions = self.sessions.lock(rt);
+        match sessions.ahead.pop() {
+            Some(session) => Some(session),
+            None => sessions.first.as_mut()?.fork(moment),
+        }
     }
 
     /// Returns the coordinator's reply to a query of its history, if it has one.
     pub fn query<R: Wait>(&self, rt: &R, query: Query) -> Option<QueryResult> {
-        self.session.lock(rt).as_mut()?.query(query)
+        self.sessions.lock(rt).first.as_mut()?.query(query)
     }
 
     /// Ends the journal's coordinator, if no thread has a clerk of it any more. Returns whether it has ended. No order
-    /// reaches it then.
+    /// reaches it then. The sessions that were enrolled ahead are dropped.
     pub fn close<R: Wait>(&self, rt: &R) -> bool {
-        let mut place = self.session.lock(rt);
-        let Some(session) = place.take() else {
+        let mut sessions = self.sessions.lock(rt);
+        sessions.ahead.clear();
+        let Some(session) = sessions.first.take() else {
             return true;
         };
         match session.close() {
             Ok(()) => true,
             Err(session) => {
-                *place = Some(session);
+                sessions.first = Some(session);
                 false
             }
         }

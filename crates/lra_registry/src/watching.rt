@@ -11,6 +11,9 @@ use std::alloc::Global;
 use std::io::ErrorKind;
 use std::sync::{Arc, Wait};
 
+/// Milliseconds until a scan that found something left to be done goes on.
+const RESCAN: u64 = 5_000;
+
 /// Bounds by which the journals of a folder are observed.
 #[derive(Clone, Copy, PartialEq, Eq)]
 pub struct JournalBounds {
@@ -36,8 +39,10 @@ pub struct JournalMonitor<B> {
     since: u64,
     /// Mark that the next journal is to replace it.
     is_full: bool,
-    /// Scan of the journal, unless it found something that is left to be done.
+    /// Scan of the journal, once it has bytes.
     scan: Option<Scan>,
+    /// Moment from which on the scan goes on, if it found something that is left to be done, in milliseconds.
+    rescan: u64,
     /// Mark that the journal has left the set. Its file is closed, so it stays as it was.
     has_left: bool,
     /// Reason why the last try to withdraw or archive the journal failed, if it did.
@@ -58,6 +63,7 @@ impl<B: Drop> JournalMonitor<B> {
             since: now,
             is_full: false,
             scan: None,
+            rescan: 0,
             has_left: false,
             why: None,
             pause: 0,
@@ -97,6 +103,7 @@ impl<B: Drop> JournalMonitor<B> {
             since: _,
             is_full: _,
             scan: _,
+            rescan: _,
             has_left: _,
             why: _,
             pause: _,
@@ -114,6 +121,7 @@ impl<B: Drop> JournalMonitor<B> {
         self.bytes = bytes;
         self.since = now;
         self.scan = Some(Scan::new());
+        self.rescan = 0;
         self.why = None;
         self.pause = 0;
         self.retry = 0;
@@ -134,15 +142,19 @@ impl<B: JournalSession + Drop> JournalMonitor<B> {
         }
     }
 
-    /// Continues the scan of the journal. Returns whether it has found that nothing is left to be done.
-    fn is_settled<R: Wait>(&mut self, rt: &R) -> bool {
+    /// Continues the scan of the journal. Returns whether it has found that nothing is left to be done. Where something
+    /// is left, the scan stays there for a while: operators may give a member up, which appends nothing.
+    fn is_settled<R: Wait>(&mut self, rt: &R, now: u64) -> bool {
+        if now < self.rescan {
+            return false;
+        }
         let Some(scan) = &mut self.scan else {
             return false;
         };
         match scan.go_on(rt, &self.journal) {
             Scanned::Further => false,
             Scanned::Busy => {
-                self.scan = None;
+                self.rescan = now.saturating_add(RESCAN);
                 false
             }
             Scanned::Settled => self.journal.under_way() == 0 && self.journal.bytes() == self.bytes,
@@ -151,8 +163,8 @@ impl<B: JournalSession + Drop> JournalMonitor<B> {
 
     /// Returns whether nothing is left to be done in the journal. It is scanned for that only once its last entry is so
     /// old that the answer matters.
-    fn is_done<R: Wait>(&mut self, rt: &R, quiet: u64, remember: u64) -> bool {
-        self.has_left || (remember <= quiet && self.is_settled(rt))
+    fn is_done<R: Wait>(&mut self, rt: &R, now: u64, quiet: u64, remember: u64) -> bool {
+        self.has_left || (remember <= quiet && self.is_settled(rt, now))
     }
 
     /// Returns what is observed of the journal at a moment. One that has left the set is free once no thread has a
@@ -177,7 +189,7 @@ impl<B: JournalSession + Drop> JournalMonitor<B> {
             instance,
             is_full: self.is_full,
             is_near_end: self.journal.is_near_end(&bounds.limit),
-            is_settled: is_scanned && self.is_done(rt, quiet, bounds.remember),
+            is_settled: is_scanned && self.is_done(rt, now, quiet, bounds.remember),
             is_free: self.has_left && self.journal.close(rt),
             is_waiting: now < self.retry,
             quiet,

@@ -16,6 +16,9 @@ use std::{io, net};
 /// Number of milliseconds before the next attempt, once a connection couldn't be accepted.
 const PAUSE: u64 = 100;
 
+/// Number of milliseconds before the next attempt, once all accept queues are full.
+const FULL_PAUSE: u64 = 1;
+
 /// Number of connections that are accepted between two checks of whether the service is to end.
 const MOST_AT_ONCE: u64 = 1_024;
 
@@ -118,17 +121,18 @@ impl<'a, R: Wait> Dispatcher<'a, R> {
         all
     }
 
-    /// Hands a connection to the connection worker that has the fewest. Closes the connection if its socket can't be
-    /// set up or memory is refused.
-    fn hand_on(&self, stream: TcpStream) {
-        if stream.set_nodelay(true).is_err() {
-            return;
-        }
-        let least = self
-            .accept_queue
+    /// Returns the accept queue of the connection worker that has the fewest connections, of those that have room.
+    fn least(&self) -> Option<&AcceptQueue> {
+        self.accept_queue
             .iter()
-            .min_by_key(|accept_queue| accept_queue.load(self.rt));
-        if let Some(accept_queue) = least {
+            .filter(|accept_queue| !accept_queue.is_full(self.rt))
+            .min_by_key(|accept_queue| accept_queue.load(self.rt))
+    }
+
+    /// Hands a connection to a connection worker. Closes the connection if its socket can't be set up or memory is
+    /// refused.
+    fn hand_on(&self, stream: TcpStream, accept_queue: &AcceptQueue) {
+        if stream.set_nodelay(true).is_ok() {
             let _ = accept_queue.push(self.rt, stream);
         }
     }
@@ -140,12 +144,16 @@ impl<'a, R: Wait> Dispatcher<'a, R> {
         }
     }
 
-    /// Hands on the connections that wait. Returns how many milliseconds may pass before the next attempt, or
-    /// `Some(None)` if an event has to be waited for. Returns `None` if the listener is gone.
+    /// Hands on the connections that wait, unless the connection workers haven't taken the ones before. Returns how
+    /// many milliseconds may pass before the next attempt, or `Some(None)` if an event has to be waited for. Returns
+    /// `None` if the listener is gone.
     fn take_all(&self, line: &PolledListener) -> Option<Option<u64>> {
         for _connection in 0..MOST_AT_ONCE {
+            let Some(accept_queue) = self.least() else {
+                return Some(Some(FULL_PAUSE));
+            };
             match accept(&line.listener) {
-                AcceptResult::Connection(stream) => self.hand_on(stream),
+                AcceptResult::Connection(stream) => self.hand_on(stream, accept_queue),
                 AcceptResult::Nothing => return Some(None),
                 AcceptResult::Crowded => {
                     self.ask_room();

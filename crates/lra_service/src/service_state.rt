@@ -325,9 +325,18 @@ impl<R: Wait + Clock, H: EventSink> ServiceState<'_, R, H> {
                 file_tail.stop(self.notifier);
             }
             if is_over {
+                *self.file_tail.lock(self.rt) = Some(file_tail);
                 return;
             }
             thread::sleep(self.rt, Duration::from_millis(LOOK));
+        }
+    }
+
+    /// Reports what was added to the file since, once all threads have ended: callbacks may be the last to do so.
+    pub(crate) fn report_rest(&self) {
+        let taken = self.file_tail.lock(self.rt).take();
+        if let Some(mut file_tail) = taken {
+            file_tail.report(self.rt, self.notifier, Some(&self.outcomes));
         }
     }
 

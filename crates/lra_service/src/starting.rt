@@ -81,5 +81,6 @@ pub(crate) fn work<
         },
     );
     let _writer = back;
+    service_state.report_rest();
     worked
 }

@@ -1,4 +1,4 @@
-use Rattle.lra_event_loop.proofs.Answers.{rests_none, rests_round, rests_some}
+use Rattle.lra_event_loop.proofs.Answers.{rests_none, rests_round}
 use Rattle.lra_event_loop.proofs.event_loop.EventLoop.run_once.Goals as goal
 
 pub returns-then-has_failed-clause-answered : goal.returns-then-has_failed-clause-answered
@@ -13,16 +13,10 @@ pub returns-in-Closing-clause-answered : goal.returns-in-Closing-clause-answered
 returns-in-Closing-clause-answered g c = rests_none g.A.Handler.base_of g.A.Handler.responds g.A.Handler.rests
     g.K.Clock.tells (g.A.Handler.sight c.args.handler.now) c.args.clock.now
 
-pub returns-then-serve-clause-answered : goal.returns-then-serve-clause-answered
-returns-then-serve-clause-answered g c =
+pub returns-in-Open-clause-answered : goal.returns-in-Open-clause-answered
+returns-in-Open-clause-answered g c =
     rests_round g.A.Handler.base_of g.A.Handler.responds g.A.Handler.rests g.K.Clock.tells
     g.met.A.Handler.rest_stays
     (g.A.Handler.sight c.args.handler.now) (g.A.Handler.sight c.serve.new.handler)
     (g.A.Handler.sight c.rest.new.handler)
     c.args.clock.now c.serve.new.clock c.serve.ensures c.rest.ensures
-
-pub returns-else-serve-clause-answered : goal.returns-else-serve-clause-answered
-returns-else-serve-clause-answered g c =
-    rests_some g.A.Handler.base_of g.A.Handler.responds g.A.Handler.rests g.K.Clock.tells
-    (g.A.Handler.sight c.args.handler.now) (g.A.Handler.sight c.serve.new.handler)
-    c.args.clock.now c.serve.new.clock c.serve.ensures

@@ -1,6 +1,5 @@
-//! Lines that report on a journal that is followed.
+//! Reasons why a journal can't be followed any more, and their lines.
 
-use crate::counts::FollowCounts;
 use lra_model::Memory;
 use std::alloc::Global;
 
@@ -11,14 +10,6 @@ pub(crate) enum Lost {
     Shrunk,
     /// The name stands for another file, or for none.
     Replaced,
-}
-
-/// Returns the line that reports a journal that has been sound so far.
-pub(crate) fn sound_line(alloc: Global, counts: &FollowCounts) -> Result<String, Memory> {
-    let entries = counts.entries();
-    let actions = counts.actions();
-    let unended = counts.unended();
-    format!(in alloc; "sound so far: {entries} entries, {actions} actions, {unended} unended\n")
 }
 
 /// Returns the line on standard error for a journal that is lost.
