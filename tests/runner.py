@@ -1,4 +1,5 @@
-"""Runs the tests of a suite, prints a line for each, and last 'N passed, M failed'."""
+"""Runs the tests of a suite, prints a line for each, once more the lines of those that failed, and last
+'N passed, M failed'."""
 import argparse
 import os
 import shutil
@@ -14,6 +15,8 @@ ROOT = os.path.dirname(os.path.dirname(os.path.abspath(__file__)))
 # How many tests run at once where a suite says nothing else, since most of their time is waiting.
 AT_ONCE = 10
 MEMORY = "/dev/shm"
+# How many characters of what failed are told once more at the end.
+TOLD = 1000
 
 # A test: its module's name and its own, as they are printed, its module's name alone, and its function.
 Test = namedtuple("Test", "name module function")
@@ -48,22 +51,29 @@ class Setting:
 
 
 class Tally:
-    """Counts of what tests came to, by the word for it."""
+    """Counts of what tests came to, by the word for it, and the lines of those that failed."""
 
     def __init__(self, suite):
         self.suite = suite
         self.counts = Counter()
+        self.failures = []
 
     def add(self, came, told):
         """Counts a test, and prints its line."""
         self.counts[came] += 1
-        print(f"{came}: {told}", flush=True)
+        line = f"{came}: {told}"
+        print(line, flush=True)
+        if came == "failed":
+            self.failures.append(" ".join(line.split())[:TOLD])
 
     def end(self):
-        """Prints the last line, and returns the status. Where processes are left, that is one more failure."""
+        """Prints what failed once more, a line each, and the last line. Returns the status. Where processes are left,
+        that is one more failure."""
         left = service.left_over()
         if left:
             self.add("failed", f"processes are left: {left}")
+        for line in self.failures:
+            print(line)
         print(f"{self.suite}: {self.counts['passed']} passed, {self.counts['failed']} failed")
         return 1 if self.counts["failed"] else 0
 
@@ -95,8 +105,8 @@ def result(test, setting_of):
         came, why = "left out", f": {it}"
     except AssertionError as it:
         came, why = "failed", f": {setting.note}{it}"
-    except Exception:  # whatever it is, the test has failed
-        came, why = "failed", f": {setting.note}{traceback.format_exc()}"
+    except Exception as it:  # whatever it is, the test has failed
+        came, why = "failed", f": {setting.note}{it!r}\n{traceback.format_exc()}"
     shutil.rmtree(setting.folder, ignore_errors=True)
     return came, f"{time.monotonic() - begun:.1f} s{figures and ': ' + figures}{why}"
 

@@ -1,13 +1,19 @@
 """What members are asked, when, and what their replies come to."""
+import errno
+import socket
 import time
 
 import journal
 from participant import Participant, wait_until
-from service import check, equal, number_of
+from service import LATE, LeftOut, check, equal, number_of
 
 ALL = ("compensate", "complete", "status", "forget", "after")
 # How many milliseconds a year has.
 YEAR = 365 * 24 * 3600 * 1000
+# How many milliseconds late what is due is at most, where a busy machine doesn't hold it up.
+SOON = 1000
+# Limits of some actions, in milliseconds. A member joins the first one, which leaves it time for that.
+LIMITS = (2000, 300, 400)
 METHODS = {"compensate": "PUT", "complete": "PUT", "status": "GET", "forget": "DELETE", "after": "PUT"}
 
 
@@ -184,11 +190,14 @@ def pauses(asks):
     return [later[1] - earlier[3] for earlier, later in zip(asks, asks[1:])]
 
 
+def check_late(what, late):
+    """None is early, by these milliseconds, and none is later than a busy machine makes it. It doesn't make all late."""
+    check(f"{what} {late} ms late", 0 <= min(late) <= SOON and max(late) <= 1000 * LATE)
+
+
 def check_pauses(asks):
     """Each pause is twice the one before, from 100 ms on, and not much more."""
-    for place, pause in enumerate(pauses(asks)):
-        least = 100 * 2**place
-        check(f"pause {place} has {pause} ms, wanted {least}", least <= pause <= least + 1000)
+    check_late("the pauses end", [pause - 100 * 2**place for place, pause in enumerate(pauses(asks))])
 
 
 def test_a_silent_member_is_asked_again_after_longer_and_longer_pauses(setting):
@@ -204,9 +213,21 @@ def test_a_silent_member_is_asked_again_after_longer_and_longer_pauses(setting):
         wait_until("the end", lambda: client.status(action) == "Cancelled")
 
 
+def is_refused_at_once(host, port):
+    """Whether the system refuses at once to connect to an address, or has no socket for such addresses."""
+    try:
+        with socket.socket(socket.AF_INET6) as stream:
+            stream.setblocking(False)
+            return stream.connect_ex((host, port)) not in (0, errno.EINPROGRESS)
+    except OSError:
+        return True
+
+
 def test_a_member_at_an_address_that_no_socket_reaches_is_silent(setting):
     """The system refuses at once to connect to an address of a link where none is named. That is the address's fault,
     and none of the system's own."""
+    if not is_refused_at_once("fe80::1", 9):
+        raise LeftOut("addresses of a link are connected to where none is named")
     with setting.serve() as service, service.client() as client:
         action = client.start()
         recovery = client.join(action, compensate="http://[fe80::1]:9/undo")
@@ -236,20 +257,28 @@ def test_a_member_that_reports_is_not_asked_again(setting):
         reply = client.call("PUT", "/lra-recovery/" + recovery.rsplit("/", 1)[1], status="Completed")
         equal("the report", (reply.code, reply.body), (200, {"status": "Completed"}))
         equal("the action", client.status(action), "Closed")
-        time.sleep(0.5)
-        check("it was asked again", len(member.requests) <= 2)
+        time.sleep(1)
+        deeds = [it.deed for it in journal.entries(setting.journal)]
+        equal("the asks after its report", deeds[deeds.index("report") :].count("ask"), 0)
+
+
+def lateness_of_limits(path):
+    """How many milliseconds late each limit has cancelled its action, by the journal."""
+    entries = journal.entries(path)
+    ends = {it.fields[0]: it.moment + int(it.fields[2]) for it in entries if it.deed == "start"}
+    return [it.moment - ends[it.fields[0]] for it in entries if it.deed == "cancel" and it.fields[1] == "limit"]
 
 
 def limit_cancels(setting):
-    """A limit passes in time, by the clock and by the journal's moments."""
+    """Limits pass in time, by the clock and by the journal's moments."""
     with setting.serve() as service, Participant() as member, service.client() as client:
-        action = client.start(limit=300)
-        client.join(action, **member.addresses("compensate"))
-        equal("at first", client.status(action), "Active")
-        wait_until("the end", lambda: client.status(action) == "Cancelled")
-        moments = {it.deed: it.moment for it in journal.entries(setting.journal) if it.deed in ("start", "cancel")}
-        late = moments["cancel"] - moments["start"] - 300
-        check(f"it was cancelled {late} ms after its limit", 0 <= late <= 1000)
+        actions = [client.start(limit=limit) for limit in LIMITS]
+        client.join(actions[0], **member.addresses("compensate"))
+        equal("at first", client.status(actions[0]), "Active")
+        wait_until("the ends", lambda: all(client.status(it) == "Cancelled" for it in actions))
+        late = lateness_of_limits(setting.journal)
+        equal("the limits that have passed", len(late), len(LIMITS))
+        check_late("the limits pass", late)
 
 
 def test_a_limit_cancels(setting):
@@ -261,4 +290,4 @@ def test_a_limit_cancels_where_the_journal_lies_a_year_ahead(setting):
     journal.write(setting.journal, f"lra-journal 2 1\n1 {ahead} enrol\n".encode())
     limit_cancels(setting)
     last = journal.entries(setting.journal)[-1].moment
-    check(f"the journal goes on at its own pace, {last - ahead} ms", 300 <= last - ahead < 60_000)
+    check(f"the journal goes on at its own pace, {last - ahead} ms", LIMITS[0] <= last - ahead < 60_000)

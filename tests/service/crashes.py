@@ -13,6 +13,8 @@ from service import Client, check, equal, free_port, id_of, number_of
 ROUNDS = 50
 CLIENTS = 8
 SEED = 7
+# How many lines are told at least before each other kill, however busy the machine is.
+SOME = 30
 
 
 class Told:
@@ -71,9 +73,12 @@ def kill_under_load(setting, port, member, told, number):
             threading.Thread(target=work, args=(port, member, told, SEED + CLIENTS * number + n))
             for n in range(CLIENTS)
         ]
+        before = len(told.lines)
         for client in clients:
             client.start()
         time.sleep(random.Random(SEED * number).uniform(0.02, 0.2))
+        if number % 2:
+            wait_until("some answers", lambda: len(told.lines) >= before + SOME)
         service.kill()
     for client in clients:
         client.join()

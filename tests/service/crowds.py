@@ -213,8 +213,8 @@ def test_a_refused_request_has_its_reply_though_its_body_still_comes(setting):
 def test_who_does_not_stop_after_a_refusal_is_left(setting):
     """By its time and by its bytes; others are answered meanwhile."""
     with setting.serve(1) as service:
+        begun = time.monotonic()
         with refused(service, REFUSED[0][0]) as silent, service.connect() as endless:
-            begun = time.monotonic()
             sent = 0
             endless.sendall(REFUSED[0][0])
             try:

@@ -44,7 +44,7 @@ def ends_unanswered(service, client, method, path):
 
 def test_nothing_leaves_before_the_journal_is_synced_and_what_left_outlasts_the_power(setting):
     done = subprocess.run(
-        [f"{setting.root}/tools/syncs", setting.program, "10"], capture_output=True, timeout=120, check=False
+        [f"{setting.root}/tools/syncs", setting.program, "10"], capture_output=True, timeout=600, check=False
     )
     if done.returncode == 2:
         raise LeftOut(done.stderr.decode().strip())

@@ -17,13 +17,12 @@ from files import SOUND, UNSOUND
 from participant import Participant, wait_for_ends, wait_until
 from service import HOST, PATIENCE, LeftOut, Run, Telling, check, equal, free_port, id_of
 
-NAME = re.compile(r"[0-9a-f]{15}\.journal")
+# The name that a journal has until it is in use.
+NEXT = re.compile(r"([0-9a-f]{15})\.next")
 # The instance of files.SOUND, as a journal's name has it.
 SEVENTH = f"{7:015x}"
 # How many milliseconds a folder's clock is ahead, where it is.
 AHEAD = 10**9
-# How many seconds there may be from a journal's name to its first action.
-IN_USE = 0.2
 # What is said of a folder so that its journals roll and are put away soon.
 SOON = ("--roll-after", "3", "--remember", "1")
 FAR = ("--roll-after", "3", "--remember", "3600")
@@ -62,12 +61,32 @@ class Folder(Telling):
     def ended(self):
         return self.journals("ended")
 
+    def has_next(self):
+        """Whether the journal behind the newest one is there. It is begun once that one is in use, whose name comes
+        before."""
+        found = filter(None, map(NEXT.fullmatch, os.listdir(self.folder)))
+        return max((it[1] for it in found), default="") > max(self.journals())
+
+    def wait_for_next(self):
+        """Waits until the journal behind the newest one is there."""
+        wait_until("the next journal", self.has_next)
+
     def wait_for(self, count, seconds=PATIENCE):
         """Waits until there are so many journals, those that were put away among them, and answers the newest one, once
-        it is in use: its name comes first."""
+        it is in use."""
         wait_until(f"a folder of {count} journals", lambda: len(self.journals()) + len(self.ended()) >= count, seconds)
-        time.sleep(IN_USE)
+        self.wait_for_next()
         return max(self.journals())
+
+    def wait_for_told(self, wanted):
+        """Waits until that is told, and nothing else."""
+
+        def is_over():
+            told = self.told()
+            return told == wanted or not wanted.startswith(told)
+
+        wait_until(f"that {wanted!r} is told", is_over)
+        equal("what is told", self.told(), wanted)
 
     def first(self, count=1):
         """Starts so many actions one after another, and answers their URIs."""
@@ -308,7 +327,7 @@ def test_a_journal_s_file_is_closed_while_nobody_asks(setting):
         first = instance_of(actions[0])
         check("its file is open", files_of(folder.process, first) > 0)
         wait_until("it is put away", lambda: folder.ended() == [first])
-        wait_until("its file is closed", lambda: files_of(folder.process, first) == 0, 3)
+        wait_until("its file is closed", lambda: files_of(folder.process, first) == 0)
 
 
 def test_a_journal_with_an_action_that_has_not_ended_stays(setting):
@@ -563,6 +582,8 @@ def test_a_folder_that_cannot_be_written_is_told(setting):
 
 def test_a_folder_that_cannot_be_written_any_more_keeps_its_newest_journal_until_it_can(setting):
     with Folder(setting, *FAR, front=obeying()) as folder:
+        # One that isn't begun yet fails by one step and then by another, which are two reasons.
+        folder.wait_for_next()
         with unwritable(folder.folder):
             actions = folder.first(30)
             time.sleep(2.5)
@@ -580,21 +601,26 @@ def test_a_folder_that_cannot_be_written_any_more_keeps_its_newest_journal_until
 def test_each_reason_why_there_is_no_next_journal_is_told_once(setting):
     """There are too few files for it; then the folder can't be written; then there is one."""
     with Folder(setting, *FAR, front=obeying()) as folder:
+        # Before that is begun so many files are opened for a moment that this shows whether there are enough.
+        folder.wait_for_next()
         pid = folder.process.pid
         used = len(os.listdir(f"/proc/{pid}/fd"))
         before = resource.prlimit(pid, resource.RLIMIT_NOFILE)
-        # So many more leave room for clients, and none for a next journal.
+        # So many more leave room for clients, and none for the next journal but one. No client calls while that is
+        # tried, since all that may be open is open then for a moment.
         resource.prlimit(pid, resource.RLIMIT_NOFILE, (used + FEW_FILES, before[1]))
+        folder.first(3)
         few = f"lra: too many files are open for a next journal of {folder.folder}\n"
-        wait_until("that there are too few files", lambda: folder.first() and folder.told() == few)
+        folder.wait_for_told(few)
         unwritten = f"lra: cannot write {folder.folder}\n"
         with unwritable(folder.folder):
-            wait_until("that it can't be written", lambda: folder.told() == few + unwritten)
+            folder.wait_for_told(few + unwritten)
             time.sleep(2.5)
             equal("what is told", folder.told(), few + unwritten)
             resource.prlimit(pid, resource.RLIMIT_NOFILE, before)
-        newest = max(folder.journals())
-        wait_until("the next journal", lambda: folder.first() and max(folder.journals()) > newest)
+        folder.wait_for_next()
+        folder.first(3)
+        folder.wait_for(3)
         equal("what is told in all", folder.told(), few + unwritten)
         folder.kill()
     equal("the audit's status", setting.run("audit", folder.folder).status, 0)

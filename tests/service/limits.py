@@ -9,8 +9,8 @@ from options import config
 from participant import Participant, wait_until
 from service import Service, check, equal, id_of
 
-# A default limit that doesn't pass in a test, and one that does.
-FAR, NEAR = 600_000, 400
+# A default limit that doesn't pass in a test, and one that does, but not before a member has joined.
+FAR, NEAR = 600_000, 4000
 BAD_BODY = (400, "BadBody")
 # Bodies of starts, with PARENT for the URI of an action, and the limits that they mean under a default of FAR; or what
 # they are refused by.

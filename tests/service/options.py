@@ -492,11 +492,11 @@ def test_no_limit_fires_after_the_end_of_standard_input(setting):
     with Participant(answer) as member, Stopping(setting) as service, service.client() as client:
         action = client.start()
         client.join(action, **member.addresses("compensate"))
-        late = client.start(limit=1500)
+        late = client.start(limit=3000)
         client.end(action, "cancel")
         member.wait("compensate")
         service.stop()
-        time.sleep(3)
+        time.sleep(5)
         release.set()
         ends(service)
     ended = [it.fields[0] for it in journal.entries(setting.journal) if it.deed == "cancel"]
@@ -516,13 +516,13 @@ def test_a_client_that_takes_no_replies_holds_the_end_up_for_ten_seconds(setting
 
 def test_times_that_are_set_are_kept(setting):
     with Stopping(setting, "--idle-timeout", "2", "--request-timeout", "3") as service:
+        begun = time.monotonic()
         with service.connect() as idle, service.connect() as slow:
-            begun = time.monotonic()
             slow.sendall(b"GET / HTTP/1.1\r\n")
-            check("the idle one is there", is_ready(idle, 4))
+            check("the idle one is there", is_ready(idle, 2 + LATE))
             idle_for = time.monotonic() - begun
             equal("the idle one", received(idle), (b"", True))
-            check("the slow one is there", is_ready(slow, 4))
+            check("the slow one is there", is_ready(slow, 3 + LATE))
             slow_for = time.monotonic() - begun
         check(f"idle {idle_for:.1f} s", 1.5 <= idle_for <= 2 + LATE)
         check(f"slow {slow_for:.1f} s", 2.5 <= slow_for <= 3 + LATE)

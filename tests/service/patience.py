@@ -29,9 +29,9 @@ def serves(service):
     check("another client waits", time.monotonic() - begun < LATE)
 
 
-def seconds_until(ended, service, most):
-    """How long it takes until a connection has ended, while others are served: `ended` waits up to a second for it."""
-    begun = time.monotonic()
+def seconds_until(ended, service, most, begun):
+    """How long it takes from a moment on until a connection has ended, while others are served: `ended` waits up to a
+    second for it."""
     while time.monotonic() - begun < most:
         serves(service)
         if ended():
@@ -39,8 +39,9 @@ def seconds_until(ended, service, most):
     raise AssertionError(f"the connection is still there after {most} s")
 
 
-def seconds_until_closed(service, stream, each_second, most):
-    """How long it takes until the service closes a connection on which nothing comes, while others are served."""
+def seconds_until_closed(service, stream, each_second, most, begun):
+    """How long it takes from a moment on until the service closes a connection on which nothing comes, while others are
+    served."""
 
     def ended():
         each_second()
@@ -49,7 +50,7 @@ def seconds_until_closed(service, stream, each_second, most):
             equal("what comes", next_piece(stream), b"")
         return ready
 
-    return seconds_until(ended, service, most)
+    return seconds_until(ended, service, most, begun)
 
 
 def next_piece(stream):
@@ -61,17 +62,20 @@ def next_piece(stream):
 
 
 def test_a_client_that_sends_nothing_is_left_after_half_a_minute(setting):
-    with setting.serve(2) as service, service.connect() as stream:
-        seconds = seconds_until_closed(service, stream, lambda: None, BETWEEN + 2 * LATE)
+    with setting.serve(2) as service:
+        begun = time.monotonic()
+        with service.connect() as stream:
+            seconds = seconds_until_closed(service, stream, lambda: None, BETWEEN + 2 * LATE, begun)
         check_about("it was left", seconds, BETWEEN)
 
 
 def test_a_client_that_rests_between_requests_is_left_after_half_a_minute(setting):
     with setting.serve(2) as service, service.connect() as stream:
         time.sleep(4)
+        begun = time.monotonic()
         stream.sendall(b"GET /lra HTTP/1.1\r\nHost: h\r\n\r\n")
         check("a reply", next_piece(stream).startswith(b"HTTP/1.1 404 "))
-        seconds = seconds_until_closed(service, stream, lambda: None, BETWEEN + 2 * LATE)
+        seconds = seconds_until_closed(service, stream, lambda: None, BETWEEN + 2 * LATE, begun)
         check_about("it was left", seconds, BETWEEN)
 
 
@@ -80,14 +84,18 @@ def test_a_client_that_sends_a_byte_a_second_is_left_after_ten_seconds(setting):
     bytes_left = [request[place : place + 1] for place in range(len(request))]
 
     with setting.serve(2) as service, service.connect() as stream:
-        seconds = seconds_until_closed(service, stream, lambda: stream.send(bytes_left.pop(0)), MESSAGE + 2 * LATE)
+        begun = time.monotonic()
+        seconds = seconds_until_closed(
+            service, stream, lambda: stream.send(bytes_left.pop(0)), MESSAGE + 2 * LATE, begun
+        )
         check_about("it was left", seconds, MESSAGE)
 
 
 def test_a_client_that_sends_a_body_slowly_is_left_after_ten_seconds(setting):
     with setting.serve(2) as service, service.connect() as stream:
+        begun = time.monotonic()
         stream.sendall(b"POST /lra-coordinator HTTP/1.1\r\nHost: h\r\nContent-Length: 1000\r\n\r\n")
-        seconds = seconds_until_closed(service, stream, lambda: stream.send(b" "), MESSAGE + 2 * LATE)
+        seconds = seconds_until_closed(service, stream, lambda: stream.send(b" "), MESSAGE + 2 * LATE, begun)
         check_about("it was left", seconds, MESSAGE)
 
 
@@ -112,6 +120,7 @@ def left_with_its_replies(setting, each_second):
             other.sendall(request)
             replies = next_piece(other) * REQUESTS
         check("a reply", replies.startswith(b"HTTP/1.1 200 OK\r\n"))
+        begun = time.monotonic()
         stream.sendall(request * REQUESTS)
         watched = select.poll()
         watched.register(stream, select.POLLRDHUP)
@@ -122,7 +131,7 @@ def left_with_its_replies(setting, each_second):
             taken += each_second(stream)
             return watched.poll(1000)
 
-        seconds = seconds_until(ended, service, MESSAGE + 2 * LATE)
+        seconds = seconds_until(ended, service, MESSAGE + 2 * LATE, begun)
         check_about("it was left", seconds, MESSAGE)
         taken += received(stream)[0]
         check(

