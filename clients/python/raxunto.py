@@ -95,9 +95,13 @@ _log = logging.getLogger("raxunto")
 
 
 class RaxuntoError(Exception):
-    """What kept a call from being carried out, or from being known to be. `maybe_done` says whether it may be."""
+    """What kept a call from being carried out, or from being known to be. `maybe_done` says whether it may be.
+
+    `retry_after` is for how many seconds the reply asks that nothing be sent again.
+    """
 
     maybe_done = True
+    retry_after = 0
 
 
 class Unreachable(RaxuntoError):
@@ -457,7 +461,7 @@ class Coordinator:
         pause, lost = _FIRST_PAUSE, False
         while True:
             try:
-                return _read(self._exchange(method, path, body, repeatable, last), wanted)
+                return _read(*self._exchange(method, path, body, repeatable, last), wanted)
             except RaxuntoError as fault:
                 if isinstance(fault, Refused):
                     fault.repeated = lost
@@ -465,7 +469,7 @@ class Coordinator:
                 if not _may_pass(fault, repeatable):
                     raise
                 stale = isinstance(fault, Unreachable) and fault._stale
-                wait = 0.0 if stale else random.uniform(pause / 2, pause)
+                wait = 0.0 if stale else max(random.uniform(pause / 2, pause), fault.retry_after)
                 if not stale and time.monotonic() + wait >= end:
                     raise
             time.sleep(wait)
@@ -477,8 +481,8 @@ class Coordinator:
 
     def _exchange(
         self, method: str, path: str, body: Optional[bytes], repeatable: bool, last: float
-    ) -> Tuple[int, bytes]:
-        """Sends a request once, and returns the code and the body of its reply."""
+    ) -> Tuple[int, bytes, int]:
+        """Sends a request once, and returns the code, the body and the `Retry-After` of its reply."""
         connection, is_kept = self._connected(repeatable, last)
         timeout = self._time(last)
         end = time.monotonic() + timeout
@@ -490,7 +494,7 @@ class Coordinator:
                 response = connection.getresponse()
             except (http.client.RemoteDisconnected, ConnectionError) as fault:
                 raise Unreachable(_why(fault), maybe_done=True, stale=is_kept) from fault
-            reply = response.status, _whole(response)
+            reply = response.status, _whole(response), _seconds(response.getheader("Retry-After", ""))
         except (OSError, http.client.HTTPException, ValueError) as fault:
             connection.close()
             if isinstance(fault, (OSError, http.client.IncompleteRead)) or _broke_off(fault):
@@ -572,9 +576,22 @@ def _whole(response: http.client.HTTPResponse) -> bytes:
     return body
 
 
-def _read(reply: Tuple[int, bytes], wanted: Tuple[int, ...]) -> Dict[str, Any]:
+def _seconds(text: str) -> int:
+    """Returns the seconds of a `Retry-After`, or 0 where there is none in seconds."""
+    return int(text) if re.fullmatch("[0-9]{1,9}", text) else 0
+
+
+def _read(code: int, text: bytes, retry_after: int, wanted: Tuple[int, ...]) -> Dict[str, Any]:
     """Returns what a reply says, if its code is one of those that are wanted. A refusal is raised."""
-    code, text = reply
+    try:
+        return _told(code, text, wanted)
+    except RaxuntoError as fault:
+        fault.retry_after = retry_after
+        raise
+
+
+def _told(code: int, text: bytes, wanted: Tuple[int, ...]) -> Dict[str, Any]:
+    """Returns the body of a reply by its code and its text."""
     try:
         body = json.loads(text.decode("utf-8"))
     except (ValueError, RecursionError):

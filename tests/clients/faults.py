@@ -7,7 +7,7 @@ import time
 import raxunto
 from exchanges import quick, raised
 from raxunto import Coordinator
-from service import HOST, check, equal, free_port
+from service import HOST, LATE, check, equal, free_port
 from standin import DROPPED, LAST, LOST, RESET, SILENT, Part, Says, Slow, StandIn, reply
 
 COMPENSATE = "http://p.test/u"
@@ -125,6 +125,34 @@ def test_a_refusal_that_may_pass_is_sent_again(_):
             place.faults = [Says(reply(503, {"error": name}), True)]
             raised(getattr(raxunto, name), trip.status)
             equal(f"requests after {name}", len(place.requests), 2)
+
+
+# Values of Retry-After that name no seconds.
+UNHEEDED = ("", "soon", "-1", "1.5", "0x1", "9" * 30, "Wed, 21 Oct 2065 07:28:00 GMT", "\u00b2")
+
+
+def refused_later(value):
+    """A refusal that may pass, with this Retry-After."""
+    return Says(reply(503, {"error": "Stopped"}, (f"Retry-After: {value}",)), True)
+
+
+def test_a_reply_that_says_when_to_ask_again_is_heeded(_):
+    with StandIn() as place:
+        trip = quick(place, patience=5).start()
+        place.faults = [refused_later(1)]
+        begun = time.monotonic()
+        equal("the status", trip.status(), "Active")
+        check("it waits so long", 1 <= time.monotonic() - begun < 1 + LATE)
+        place.faults = [refused_later(10**9 - 1)]
+        begun = time.monotonic()
+        error = raised(raxunto.Stopped, trip.status)
+        check("nothing is waited for that comes too late", time.monotonic() - begun < 1)
+        equal("what the error says", error.retry_after, 10**9 - 1)
+        for value in UNHEEDED:
+            place.faults = [refused_later(value)]
+            begun = time.monotonic()
+            equal(f"after {value!r}", trip.status(), "Active")
+            check(f"it waits as ever after {value!r}", time.monotonic() - begun < 1)
 
 
 def test_a_proxy_that_doesnt_reach_the_coordinator_is_asked_again(_):
