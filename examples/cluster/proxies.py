@@ -100,6 +100,10 @@ def section_of(lines):
         yield line
 
 
+class KeyFault(SystemExit):
+    """The file of the operators' key has none, or can't be read. Where nobody catches it, the program ends so."""
+
+
 def authorization():
     """What the operators' ports are given as `Authorization`, or nothing where they ask for no key."""
     path = os.environ.get(KEY_FILE)
@@ -109,9 +113,9 @@ def authorization():
         with open(path, encoding="ascii") as it:
             key = it.read().rstrip("\r\n")
     except (OSError, ValueError) as fault:
-        sys.exit(f"cluster: {KEY_FILE}: {path} can't be read: {fault}")
+        raise KeyFault(f"cluster: {KEY_FILE}: {path} can't be read: {fault}") from None
     if not key or not key.isprintable():
-        sys.exit(f"cluster: {KEY_FILE}: {path} has no key on one line")
+        raise KeyFault(f"cluster: {KEY_FILE}: {path} has no key on one line")
     return "Bearer " + key
 
 
@@ -167,8 +171,12 @@ class Watch(threading.Thread):
         self.over = threading.Event()
 
     def look(self):
-        """Writes the servers where they have changed, and answers whether they have."""
-        text = upstream(self.sites)
+        """Writes the servers where they have changed, and answers whether they have. While the key can't be read, as
+        where its file is just being written, nobody can be asked, and all stays."""
+        try:
+            text = upstream(self.sites)
+        except KeyFault:
+            return False
         with open(self.path, encoding="ascii") as it:
             if it.read() == text:
                 return False

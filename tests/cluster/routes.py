@@ -11,7 +11,7 @@ from unittest import mock
 from load import CLIENTS_OF, Caller, Told
 from participant import Participant, wait_until
 from parts import OPTIONS, PlainSite
-from proxies import KEY_FILE, Proxy, put
+from proxies import KEY_FILE, Proxy, Watch, put, sites_of
 from service import check, equal, free_port, id_of
 
 BASE = "http://lra.example.com/"
@@ -132,6 +132,21 @@ def test_sites_whose_operators_ask_for_a_key_take_starts_behind_haproxy(setting)
         equal("the sites that take starts", sorted(starts), ["0001", "0002", "0003"])
         del os.environ[KEY_FILE]
         check("a site is ready without the key", not any(it.is_up() for it in sites))
+
+
+def test_who_looks_for_nginx_goes_on_where_the_key_cannot_be_read_for_a_while(setting):
+    path, key = setting.folder + "/starts.conf", setting.folder + "/operators"
+    put(path, "# as it was\n")
+    watch = Watch(path, sites_of(["1=127.0.0.1:1,127.0.0.1:2"]), lambda: 0)
+    with mock.patch.dict(os.environ, {KEY_FILE: key}):
+        for text in (None, "", "\n"):
+            if text is not None:
+                put(key, text, is_secret=True)
+            check("nothing changes", not watch.look())
+            with open(path, encoding="ascii") as it:
+                equal("the file", it.read(), "# as it was\n")
+        put(key, "a key\n", is_secret=True)
+        check("it changes then", watch.look())
 
 
 def test_what_names_an_identifier_goes_to_its_site_behind_haproxy(setting):
