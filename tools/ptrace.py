@@ -85,10 +85,18 @@ def follow(process, enters, leaves):
             signal_number = stopped
 
 
+def info_of(thread):
+    """Returns what the system tells of the call at which a thread has stopped. A thread that was killed meanwhile is
+    told as a ProcessLookupError, here and where its memory is read."""
+    info = Info()
+    if libc.ptrace(GET_SYSCALL_INFO, thread, ctypes.sizeof(info), ctypes.addressof(info)) < 0:
+        raise ProcessLookupError(f"thread {thread} has stopped at no call")
+    return info
+
+
 def look(thread, enters, leaves):
     """Looks at the call at which a thread has stopped."""
-    info = Info()
-    libc.ptrace(GET_SYSCALL_INFO, thread, ctypes.sizeof(info), ctypes.addressof(info))
+    info = info_of(thread)
     if info.op == ENTRY:
         enters(thread, info.words[0], info.words[1], info.words[3])
     elif info.op == EXIT:
@@ -97,16 +105,17 @@ def look(thread, enters, leaves):
 
 def arguments(thread):
     """Returns the arguments of the call with which a thread begins."""
-    info = Info()
-    libc.ptrace(GET_SYSCALL_INFO, thread, ctypes.sizeof(info), ctypes.addressof(info))
-    return info.words[1:7]
+    return info_of(thread).words[1:7]
 
 
 def bytes_at(thread, address, length):
     """Returns so many bytes of a thread's memory, or less at its end."""
     with open(f"/proc/{thread}/mem", "rb", buffering=0) as it:
         it.seek(address)
-        return it.read(length)
+        taken = it.read(length)
+    if length and not taken:
+        raise ProcessLookupError(f"thread {thread} has no memory")
+    return taken
 
 
 def given(thread):
