@@ -29,6 +29,10 @@ class Refused(Exception):
     """The system lets no program be watched."""
 
 
+class Gone(Exception):
+    """A thread isn't stopped any more: it was killed."""
+
+
 class Info(ctypes.Structure):
     """What the system tells of a call: `words` begins with its number and its arguments, or with its result."""
 
@@ -78,29 +82,29 @@ def follow(process, enters, leaves):
             continue
         stopped = os.WSTOPSIG(status)
         if stopped == AT_CALL:
-            # A thread that was killed meanwhile has no memory to look at.
-            with contextlib.suppress(ProcessLookupError):
-                look(thread, enters, leaves)
+            look(thread, enters, leaves)
         elif stopped not in (signal.SIGTRAP, signal.SIGSTOP):
             signal_number = stopped
 
 
 def info_of(thread):
     """Returns what the system tells of the call at which a thread has stopped. A thread that was killed meanwhile is
-    told as a ProcessLookupError, here and where its memory is read."""
+    told as Gone, here and where its memory is read."""
     info = Info()
     if libc.ptrace(GET_SYSCALL_INFO, thread, ctypes.sizeof(info), ctypes.addressof(info)) < 0:
-        raise ProcessLookupError(f"thread {thread} has stopped at no call")
+        raise Gone(f"thread {thread} has stopped at no call")
     return info
 
 
 def look(thread, enters, leaves):
-    """Looks at the call at which a thread has stopped."""
-    info = info_of(thread)
-    if info.op == ENTRY:
-        enters(thread, info.words[0], info.words[1], info.words[3])
-    elif info.op == EXIT:
-        leaves(thread, info.words[0])
+    """Looks at the call at which a thread has stopped. One that was killed meanwhile makes no call any more, and has
+    nothing to look at: what `enters` or `leaves` does of it ends there."""
+    with contextlib.suppress(Gone):
+        info = info_of(thread)
+        if info.op == ENTRY:
+            enters(thread, info.words[0], info.words[1], info.words[3])
+        elif info.op == EXIT:
+            leaves(thread, info.words[0])
 
 
 def arguments(thread):
@@ -110,11 +114,17 @@ def arguments(thread):
 
 def bytes_at(thread, address, length):
     """Returns so many bytes of a thread's memory, or less at its end."""
-    with open(f"/proc/{thread}/mem", "rb", buffering=0) as it:
-        it.seek(address)
-        taken = it.read(length)
-    if length and not taken:
-        raise ProcessLookupError(f"thread {thread} has no memory")
+    try:
+        with open(f"/proc/{thread}/mem", "rb", buffering=0) as it:
+            it.seek(address)
+            taken = it.read(length)
+        if length and not taken:
+            raise OSError(f"thread {thread} has no memory at {address:#x}")
+    except OSError:
+        # Of a thread that was killed there is no such file, or nobody but root may open it, or nothing is in it. One
+        # that is stopped still has its memory, and the fault is another.
+        info_of(thread)
+        raise
     return taken
 
 
