@@ -15,8 +15,9 @@ ROOT = os.path.dirname(os.path.dirname(os.path.abspath(__file__)))
 # How many tests run at once where a suite says nothing else, since most of their time is waiting.
 AT_ONCE = 10
 MEMORY = "/dev/shm"
-# How many characters of what failed are told once more at the end.
-TOLD = 1000
+# How many characters of what failed are told once more at the end: those at its front name the test, and the last ones
+# what was wanted, or the fault and where it was raised.
+TOLD, FRONT = 590, 190
 
 # A test: its module's name and its own, as they are printed, its module's name alone, and its function.
 Test = namedtuple("Test", "name module function")
@@ -50,6 +51,12 @@ class Setting:
         return service.run(self.program, *words)
 
 
+def shortened(text):
+    """Returns a text on one line, without its middle where it is long."""
+    line = " ".join(text.split())
+    return line if len(line) <= TOLD else f"{line[:FRONT]} [..] {line[len(line) - TOLD + FRONT + 6 :]}"
+
+
 class Tally:
     """Counts of what tests came to, by the word for it, and the lines of those that failed."""
 
@@ -64,7 +71,7 @@ class Tally:
         line = f"{came}: {told}"
         print(line, flush=True)
         if came == "failed":
-            self.failures.append(" ".join(line.split())[:TOLD])
+            self.failures.append(shortened(line))
 
     def end(self):
         """Prints what failed once more, a line each, and the last line. Returns the status. Where processes are left,
