@@ -7,6 +7,7 @@ import shlex
 import socket
 import subprocess
 import sys
+import time
 
 import held
 import journal
@@ -53,9 +54,7 @@ def test_a_terminal_is_told_why_and_nothing_else_is(setting):
     address, faulty = f"{HOST}:{free_port()}", f"{HOST}:{free_port()}/"
     states = "Active, Closing, Closed, FailedToClose, Cancelling, Cancelled or FailedToCancel"
     no_file, loop = "no such file or folder", "links that lead in a circle"
-    with socket.socket() as listener:
-        listener.bind((HOST, free_port()))
-        listener.listen()
+    with socket.create_server((HOST, 0)) as listener:
         used = f"{HOST}:{listener.getsockname()[1]}"
         for line, why, *words in (
             ("usage", "serve: WORKERS is 1 to 16, not 40", "serve", address, setting.journal, "40"),
@@ -100,9 +99,7 @@ def test_a_terminal_is_told_why_and_nothing_else_is(setting):
 def test_a_fault_of_a_service_stands_in_its_log(setting):
     folder, missing = f"{setting.folder}/folder", f"{setting.folder}/missing"
     os.makedirs(folder)
-    with socket.socket() as listener:
-        listener.bind((HOST, free_port()))
-        listener.listen()
+    with socket.create_server((HOST, 0)) as listener:
         used = f"{HOST}:{listener.getsockname()[1]}"
         for line, why, *words in (
             (f"cannot serve {used}", "address in use", used, setting.journal),
@@ -161,9 +158,15 @@ def test_a_terminal_shows_how_far_a_long_run_is(setting):
         ("audit", setting.journal), ("show", setting.journal), ("upgrade", setting.journal), ("audit", folder)
     ):
         usual = setting.run(*words)
+        begun = time.monotonic()
         status, output, shown = on_terminal(sys.executable, held.__file__, "1.2", "65536", setting.program, *words)
+        seconds = int(time.monotonic() - begun)
         equal(f"what {words} prints", (status, watched(output)), (usual.status, usual.output))
-        equal(f"what the terminal shows of {words}", shown, line + cleared)
+        # (a busy machine may hold it up for another second)
+        count = shown.count(line)
+        check(f"the terminal shows {shown!r} of {words} in {seconds} s", 1 <= count <= seconds)
+        check(f"what the terminal shows of {words} at last: {shown!r}", shown.endswith(line + cleared))
+        equal(f"what else the terminal shows of {words}", shown.replace(cleared, "").replace(line, ""), "")
 
 
 def test_usage(setting):
@@ -291,10 +294,8 @@ def test_an_address_that_is_no_base_cannot_be_served(setting):
 
 
 def test_an_address_in_use_cannot_be_served(setting):
-    with socket.socket() as listener:
-        port = free_port()
-        listener.bind((HOST, port))
-        listener.listen()
+    with socket.create_server((HOST, 0)) as listener:
+        port = listener.getsockname()[1]
         told(setting, f"lra: cannot serve {HOST}:{port}", "serve", f"{HOST}:{port}", setting.journal, "2")
 
 
@@ -321,11 +322,8 @@ def test_a_file_in_a_folder_that_is_missing(setting):
 
 def test_faults_come_in_their_order(setting):
     journal.write(setting.journal, UNSOUND)
-    with socket.socket() as listener:
-        port = free_port()
-        listener.bind((HOST, port))
-        listener.listen()
-        used = f"{HOST}:{port}"
+    with socket.create_server((HOST, 0)) as listener:
+        used = f"{HOST}:{listener.getsockname()[1]}"
         told(setting, "lra: usage", "serve", "a b", setting.journal, "0")
         circle = unreadable(setting)
         told(setting, "lra: cannot serve a b", "serve", "a b", circle, "2")

@@ -192,6 +192,7 @@ def check_goes_on(service, answered):
 
 def check_journals(service, answered):
     """Each start, join and end that was answered is in a journal, and what hasn't ended is served after a restart."""
+    wait_until("the folder's lock is free", lambda: is_free(service.folder))
     kept = {"start": set(), "join": set(), "end": set()}
     for where in (".", "ended"):
         for name in service.journals(where):
@@ -205,7 +206,6 @@ def check_journals(service, answered):
     equal("joins that no journal has", missing("join", answered.joins), [])
     equal("ends that no journal has", missing("end", answered.ends), [])
     service.words = service.plain
-    wait_until("the folder's lock is free", lambda: is_free(service.folder))
     with service:
         with service.client() as client:
             for action in answered.starts:

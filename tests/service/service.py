@@ -1,4 +1,7 @@
 """A running `lra serve`, and clients that call it."""
+import contextlib
+import fcntl
+import glob
 import http.client
 import json
 import os
@@ -10,16 +13,23 @@ import struct
 import subprocess
 import tempfile
 import threading
+import time
 import uuid
 from collections import namedtuple
 
 HOST = "127.0.0.1"
 # How many seconds anything may take that has no limit of its own.
-PATIENCE = 20
+PATIENCE = 60
 # How many seconds a start may take, which syncs what it finds: a busy disk may hold a sync up for long.
-START = 60
-# How many seconds late an answer or an end may be on a busy machine, or where its disk takes its time.
-LATE = 5
+START = 120
+# How many seconds late an answer or an end may be on a busy machine, or where its disk takes its time: fewer than the
+# ten that a client has for a message, and that a gentle end lasts at most.
+LATE = 8
+# For how many seconds a service rests that has ended what it has begun by itself, how often it is looked at, and how
+# many seconds are enough for that.
+CALM, LOOKS, ENOUGH = 0.5, 10, 15
+# Where the processes that test note the ports that they were given: a lock on a byte for each, which ends with them.
+NOTES = f"{tempfile.gettempdir()}/raxunto-ports-{os.getuid()}"
 
 Reply = namedtuple("Reply", "code phrase fields body")
 Run = namedtuple("Run", "status output told")
@@ -29,6 +39,7 @@ CLOSED = (http.client.RemoteDisconnected, ConnectionResetError, BrokenPipeError)
 
 lock = threading.Lock()
 given_ports = set()
+notes = []
 started = []
 
 
@@ -48,16 +59,49 @@ def check(what, holds):
         raise AssertionError(what)
 
 
+def is_noted(port):
+    """Notes a port as given, and answers whether that was done: it isn't where another process has it."""
+    try:
+        if not notes:
+            # It stays open: the locks of a process end where it closes the file.
+            notes.append(os.open(NOTES, os.O_RDWR | os.O_CREAT | os.O_CLOEXEC | os.O_NOFOLLOW, 0o600))
+        fcntl.lockf(notes[0], fcntl.LOCK_EX | fcntl.LOCK_NB, 1, port)
+    except BlockingIOError:
+        return False
+    return True
+
+
 def free_port():
-    """A port of four digits that nothing listens at, and that wasn't given before. The system chooses none of these
-    itself. It is asked by a connection: a socket that was bound to it would be held for a while by a process that
-    another thread is just starting."""
+    """A port of four digits that nothing listens at, and that wasn't given before, nor to another process that tests:
+    a service may leave it for a while and take it again. The system chooses none of these itself. It is asked by a
+    connection: a socket that was bound to it would be held for a while by a process that another thread is just
+    starting."""
     while True:
         port = random.randint(2000, 9999)
         with lock, socket.socket() as probe:
-            if port not in given_ports and probe.connect_ex((HOST, port)) != 0:
+            if port not in given_ports and probe.connect_ex((HOST, port)) != 0 and is_noted(port):
                 given_ports.add(port)
                 return port
+
+
+def begun_by(number):
+    """The numbers of the processes that a process has begun, and of those that they have begun."""
+    found = []
+    for path in glob.glob(f"/proc/{number}/task/*/children"):
+        with contextlib.suppress(OSError), open(path, encoding="ascii") as it:
+            for child in map(int, it.read().split()):
+                found += [child, *begun_by(child)]
+    return found
+
+
+def has_ended(number):
+    """Whether no thread of a process is left, though nobody may have asked for its status yet."""
+    try:
+        with open(f"/proc/{number}/stat", "rb") as it:
+            state = it.read().rsplit(b")", 1)[1].split()[0]
+        return state in (b"Z", b"X") and len(os.listdir(f"/proc/{number}/task")) <= 1
+    except OSError:
+        return True
 
 
 def is_ready(stream, seconds):
@@ -188,7 +232,9 @@ class Service:
         self.kill()
 
     def kill(self, signal_number=signal.SIGKILL):
-        """Ends the program by a signal, and answers its status."""
+        """Ends the program by a signal, and answers its status. A program that is watched ends a moment after its
+        watcher, and has its port and its files until then: that is waited for."""
+        watched = begun_by(self.process.pid) if self.process.poll() is None else []
         self.process.send_signal(signal_number)
         try:
             status = self.process.wait(PATIENCE)
@@ -196,6 +242,10 @@ class Service:
             self.process.kill()
             self.process.wait()
             self.process.stdout.close()
+        end = time.monotonic() + PATIENCE
+        while not all(map(has_ended, watched)):
+            check("the watched program has ended", time.monotonic() < end)
+            time.sleep(0.005)
         return status
 
     def client(self, keep=True):
@@ -217,6 +267,43 @@ class Service:
         with open(f"/proc/{self.process.pid}/stat", "rb") as it:
             fields = it.read().rsplit(b")", 1)[1].split()
         return (int(fields[11]) + int(fields[12])) / os.sysconf("SC_CLK_TCK")
+
+
+def calm(service):
+    """Waits until a service rests that has begun what it begins by itself: for a while it has the same threads, and
+    each waits for something. One that a busy machine keeps from running doesn't wait; where there is always such a one
+    the service has had time enough at last."""
+    looks, before = 0, None
+    end = time.monotonic() + ENOUGH
+    while looks < LOOKS and time.monotonic() < end:
+        now = threads_of(service)
+        looks = looks + 1 if now == before and set(now.values()) <= {"S"} else 0
+        before = now
+        time.sleep(CALM / LOOKS)
+
+
+def threads_of(service):
+    """The state of each thread of a service, and of what it has begun, by its number."""
+    found = {}
+    for number in (service.process.pid, *begun_by(service.process.pid)):
+        for path in glob.glob(f"/proc/{number}/task/*/stat"):
+            with contextlib.suppress(OSError), open(path, "rb") as it:
+                found[path] = it.read().rsplit(b")", 1)[1].split()[0].decode()
+    return found
+
+
+def least_share(service, seconds, little=0.05):
+    """Which part of a processor a service takes that has nothing to do, for so long: the least of some tries, since a
+    busy machine may have left it with something from before."""
+    least = None
+    for _ in range(5):
+        used, begun = service.seconds(), time.monotonic()
+        time.sleep(seconds)
+        taken = (service.seconds() - used) / (time.monotonic() - begun)
+        least = taken if least is None else min(least, taken)
+        if least < little:
+            break
+    return least
 
 
 class Telling(Service):
@@ -243,8 +330,11 @@ class Telling(Service):
         return super().kill(*signals)
 
     def told(self):
-        """What it has told on standard error so far. The file's place is the service's, too, so that it isn't moved."""
-        return os.pread(self.errors.fileno(), os.fstat(self.errors.fileno()).st_size, 0).decode()
+        """What it has told on standard error so far, by whole lines as long as it runs, since the last one may be there
+        in part. The file's place is the service's, too, so that it isn't moved."""
+        runs = self.process.poll() is None
+        data = os.pread(self.errors.fileno(), os.fstat(self.errors.fileno()).st_size, 0)
+        return (data[: data.rfind(b"\n") + 1] if runs else data).decode()
 
 
 def left_over():
