@@ -13,7 +13,7 @@ YEAR = 365 * 24 * 3600 * 1000
 # How many milliseconds late what is due is at most, where a busy machine doesn't hold it up.
 SOON = 1000
 # Limits of some actions, in milliseconds. A member joins the first one, which leaves it time for that.
-LIMITS = (2000, 300, 400)
+LIMITS = (6000, 300, 400)
 METHODS = {"compensate": "PUT", "complete": "PUT", "status": "GET", "forget": "DELETE", "after": "PUT"}
 
 

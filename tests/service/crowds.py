@@ -178,6 +178,8 @@ REFUSED = (
 # How many seconds a client has to close its connection once that is all it can do, and how many bytes of it are thrown
 # away meanwhile.
 LINGER, THROWN = 2, 1 << 20
+# How often a client tries that a busy machine holds up.
+TRIES = 10
 
 
 def refused(service, head):
@@ -191,17 +193,31 @@ def refused(service, head):
     return stream
 
 
+def check_refusal(service, head, wanted):
+    """A client whose request is refused has the whole reply, and may send on. One that a busy machine holds up for
+    longer than it has to close its connection is left, and tries again."""
+    for _ in range(TRIES):
+        begun = time.monotonic()
+        try:
+            with refused(service, head) as stream:
+                data, is_whole = received(stream)
+                check(f"{data!r} and a reset", is_whole)
+                equal("the reply", data[: len(wanted)], wanted)
+                stream.sendall(b"x" * 100000)
+            return
+        except (AssertionError, ConnectionError):
+            if time.monotonic() - begun < LINGER - 0.5:
+                raise
+    raise AssertionError(f"{TRIES} clients were held up")
+
+
 def test_a_refused_request_has_its_reply_though_its_body_still_comes(setting):
     """A connection that is closed while bytes of it are unread is reset, and loses its reply on the way: so what still
     comes is read first."""
     with setting.serve(1) as service:
         for head, wanted in REFUSED:
             for _ in range(5):
-                with refused(service, head) as stream:
-                    data, is_whole = received(stream)
-                    check(f"{data!r} and a reset", is_whole)
-                    equal("the reply", data[: len(wanted)], wanted)
-                    stream.sendall(b"x" * 100000)
+                check_refusal(service, head, wanted)
         # A client that says that it sends nothing more has its reply whether the connection is closed before or after
         # what it sent was read.
         with service.connect() as stream:
@@ -213,8 +229,7 @@ def test_a_refused_request_has_its_reply_though_its_body_still_comes(setting):
 def test_who_does_not_stop_after_a_refusal_is_left(setting):
     """By its time and by its bytes; others are answered meanwhile."""
     with setting.serve(1) as service:
-        begun = time.monotonic()
-        with refused(service, REFUSED[0][0]) as silent, service.connect() as endless:
+        with service.connect() as endless:
             sent = 0
             endless.sendall(REFUSED[0][0])
             try:
@@ -223,12 +238,16 @@ def test_who_does_not_stop_after_a_refusal_is_left(setting):
             except ConnectionError:
                 pass
             check(f"{sent} bytes were taken", THROWN <= sent < 32 * THROWN)
+        with service.connect() as slow:
+            begun = time.monotonic()
+            slow.sendall(REFUSED[0][0])
             serves(service)
             try:
                 while time.monotonic() - begun < LINGER + LATE:
-                    silent.send(b"x")
+                    slow.send(b"x")
                     time.sleep(0.05)
             except ConnectionError:
                 pass
             seconds = time.monotonic() - begun
             check(f"it was left after {seconds:.1f} s", LINGER - 0.5 <= seconds < LINGER + LATE)
+            serves(service)

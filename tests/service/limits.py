@@ -10,7 +10,7 @@ from participant import Participant, wait_until
 from service import Service, check, equal, id_of
 
 # A default limit that doesn't pass in a test, and one that does, but not before a member has joined.
-FAR, NEAR = 600_000, 4000
+FAR, NEAR = 600_000, 8000
 BAD_BODY = (400, "BadBody")
 # Bodies of starts, with PARENT for the URI of an action, and the limits that they mean under a default of FAR; or what
 # they are refused by.

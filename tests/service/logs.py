@@ -285,6 +285,7 @@ def test_what_a_service_tells_anyway_is_told_at_each_level(setting):
     port = free_port()
     for options, wanted_line in (((), "lra: {}/stray is no journal"), (("--log", "error"), "{}/stray is no journal")):
         with Folder(setting, *options, port=port, front=["env", "-u", "JOURNAL_STREAM"]) as folder:
+            wait_until("a line", folder.told)
             told = folder.told()
         text = wanted_line.format(folder.folder)
         if options:

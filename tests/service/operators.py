@@ -31,7 +31,7 @@ FORM = "application/x-www-form-urlencoded"
 SAMPLE = re.compile(r'^([a-z_:][a-z0-9_:]*)(\{[a-z_]+="[^"\\\n]*"(?:,[a-z_]+="[^"\\\n]*")*\})? ([0-9]+(?:\.[0-9]+)?)$')
 # How many connections there are, so that each worker has some; and how often a client asks, by which its worker is
 # found, and in how many turns at most. After more requests its next connection may be another worker's.
-CLIENTS = 8
+CLIENTS, MOST_CLIENTS = 8, 40
 ASKED = 100
 TURNS = 10
 # How many actions are many: some stretches of those that are counted together.
@@ -48,6 +48,8 @@ UNSERVED = (
 SELDOM = "600000"
 # How many seconds a journal is left in peace, so that what is left to be done there was looked for.
 LOOKED = 4
+# How many seconds a callback may be under way to a member that answers at once.
+UNDER_WAY = 2
 # The marks of HTML, in an address of a member and in a path.
 MARKUP = "<i>&\"'"
 
@@ -254,18 +256,18 @@ def test_a_sync_that_hangs_is_told(setting):
         service.words[at + 3:at + 3] = ["--sync-seconds", "1"]
         with service, service.client() as client:
             action = client.start()
-            equal("a sync under way", measures(service)["lra_sync_age_seconds"], 0)
+            settled(service, {"lra_sync_age_seconds": 0})
             with disk:
+                began = time.monotonic()
                 closing = threading.Thread(target=client.end, args=(action, "close"))
                 closing.start()
-                began = time.monotonic()
                 equal("liveness", service.read("/health/live")["status"], "UP")
                 wait_until("it isn't ready", lambda: not service.is_ready())
                 check("that it is told so in time", 1 <= time.monotonic() - began < 1 + LATE)
                 for probe in ("", "/ready"):
                     before = time.monotonic()
                     checks = {it["name"]: it for it in service.read("/health" + probe, 503)["checks"]}
-                    check("a probe is answered at once", time.monotonic() - before < 1)
+                    check("a probe is answered while it hangs", time.monotonic() - before < LATE)
                     equal("what is down", [name for name, it in checks.items() if it["status"] == "DOWN"], ["sync"])
                     equal("the limit", checks["sync"]["data"]["limit_ms"], 1000)
                     check("the age", checks["sync"]["data"]["age_ms"] > 1000)
@@ -287,11 +289,12 @@ class Starved(WatchedFolder):
     def busy(self):
         """How long each thread has run, in billionths of a second."""
         found = {}
-        try:
-            for thread in os.listdir(f"/proc/{self.process.pid}/task"):
+        for thread in os.listdir(f"/proc/{self.process.pid}/task"):
+            # (one that has made the service ready may have ended since)
+            with contextlib.suppress(FileNotFoundError, ProcessLookupError):
                 found[int(thread)] = int(journal.read(f"/proc/{self.process.pid}/task/{thread}/schedstat").split()[0])
-        except FileNotFoundError as it:
-            raise LeftOut("the system doesn't tell how long a thread has run") from it
+        if not found:
+            raise LeftOut("the system doesn't tell how long a thread has run")
         return found
 
     def worker_of(self, client, action):
@@ -325,6 +328,10 @@ def test_a_worker_that_cannot_follow_the_set_is_told(setting):
         actions = [clients[0].start()]
         starved = service.worker_of(clients[0], actions[0])
         others = [client for client in clients[1:] if service.worker_of(client, actions[0]) != starved]
+        # Which worker takes a connection is chance: each has one at last.
+        while not others and len(clients) < MOST_CLIENTS:
+            clients.append(stack.enter_context(service.client()))
+            others = [client for client in clients[-1:] if service.worker_of(client, actions[0]) != starved]
         check("another worker answers some", others)
         equal("the check before", (checks(service)["set"], measures(service)["lra_set_behind"]), ("UP", 0))
         service.allocations.starve(starved)
@@ -360,6 +367,18 @@ def test_a_worker_that_cannot_follow_the_set_is_told(setting):
     folders.check_sound(service)
 
 
+def settled(service, wanted):
+    """Waits until some measures are as they are wanted, and answers all."""
+    end = time.monotonic() + PATIENCE
+    while True:
+        found = measures(service)
+        came = {name: found.get(name) for name in wanted}
+        if came == wanted or time.monotonic() > end:
+            equal("the measures", came, wanted)
+            return found
+        time.sleep(0.02)
+
+
 def test_metrics_are_as_prometheus_reads_them(setting):
     for kind in (Watched, WatchedFolder):
         with kind(setting) as service, Participant() as member, service.client() as client:
@@ -369,7 +388,6 @@ def test_metrics_are_as_prometheus_reads_them(setting):
             client.start()
             client.call("GET", "/nowhere")
             wait_until("the action is closed", lambda: client.status(action) == "Closed")
-            found = measures(service)
             wanted = {
                 'lra_actions{state="Active"}': 1,
                 'lra_actions{state="Closed"}': 1,
@@ -386,7 +404,8 @@ def test_metrics_are_as_prometheus_reads_them(setting):
                 "lra_callback_seconds_count": 1,
                 'lra_callback_seconds_bucket{le="+Inf"}': 1,
             }
-            equal("the measures", {name: found.get(name) for name in wanted}, wanted)
+            # (a callback is under way until a moment after its reply is recorded)
+            found = settled(service, wanted)
             path = path_of(service)
             equal("the bytes", found["lra_journal_bytes"], os.path.getsize(path))
             # A folder counts the first line of a journal that it has made too.
@@ -653,11 +672,16 @@ def test_a_journal_that_is_put_away_is_told_no_more(setting):
         with service.client() as client:
             for action in actions:
                 client.end(action, "close")
-        before = measures(service)
+        looks = [found]
+
+        def is_one_left():
+            looks.append(measures(service))
+            return looks[-1]["lra_journals"] == 1
+
+        wait_until("one journal is left", is_one_left)
+        *_, before, after = looks
         equal("the journals before it is put away", before["lra_journals"], 2)
         wait_until("it is put away", lambda: service.ended())
-        wait_until("one journal is left", lambda: measures(service)["lra_journals"] == 1)
-        after = measures(service)
         fallen = [
             name
             for name, number in before.items()
@@ -720,7 +744,7 @@ def test_a_member_that_cannot_be_told_is_given_up(setting):
             )
             noted = journal.read(service.path("given-up")).decode().split("\n")
             check(f"it is noted: {noted}", any(it.endswith(" given up") for it in noted))
-            time.sleep(0.5)
+            time.sleep(UNDER_WAY)
             before = len(member.at("after"))
             time.sleep(1.5)
             equal("how often it was asked since", len(member.at("after")) - before, 0)
@@ -773,7 +797,7 @@ def test_a_member_that_was_given_up_is_so_after_a_restart(setting):
                 service.ask(f"/members/{id_of(recovery)}/give-up", "POST", json.dumps({"status": "Ended"})).code,
                 200,
             )
-            time.sleep(0.5)
+            time.sleep(UNDER_WAY)
         before = len(member.at("after"))
         with folder as service, service.client() as client:
             time.sleep(1.5)
@@ -1078,11 +1102,11 @@ def test_those_who_are_slow_hold_nobody_up(setting):
         check(f"twenty looks beside silent ones took {looked:.1f} s", looked < LATE)
         slow = service.visitor()
         text = f"GET /health HTTP/1.1\r\nHost: h\r\nAuthorization: Bearer {KEY}\r\n\r\n".encode()
-        for byte in text[:5]:
+        for byte in text[:3]:
             slow.sendall(bytes([byte]))
             time.sleep(1)
             check("it is ready", service.is_ready())
-        slow.sendall(text[5:])
+        slow.sendall(text[3:])
         check("the slow one is answered", crowds.one_reply(slow)[0].startswith(b"HTTP/1.1 200 "))
         late = service.visitor()
         late.settimeout(PATIENCE)
@@ -1122,9 +1146,9 @@ def flood(service, end, counts):
 
 def test_a_flood_at_the_front_does_not_blind_who_looks(setting):
     with Watched(setting) as service:
+        idle = [service.connect() for _ in range(300)]
         counts, end = [], time.monotonic() + 5
         threads = [threading.Thread(target=flood, args=(service, end, counts), daemon=True) for _ in range(8)]
-        idle = [service.connect() for _ in range(300)]
         for thread in threads:
             thread.start()
         longest = 0

@@ -11,10 +11,12 @@ import tomllib
 import held
 import journal
 from asks import recorded
+from crowds import UNKNOWN, one_reply
 from files import SOUND, UNSOUND, VERDICT, hint
 from participant import Participant, wait_until
 from patience import REQUESTS, narrow
-from service import HOST, LATE, PATIENCE, Service, check, equal, free_port, id_of, is_ready, number_of, received
+from service import HOST, LATE, PATIENCE, Service
+from service import calm, check, equal, free_port, id_of, is_ready, number_of, received
 from watching import watched
 
 # Each setting's word, what it is where nothing is said, the least and the most that it may be. One that is less than
@@ -336,8 +338,13 @@ def test_how_far_a_journal_is_read_is_told_once_a_second_where_a_terminal_shows_
     journal.write(setting.journal, SOUND)
     screen, terminal = os.openpty()
     try:
+        begun = time.monotonic()
         output = held_check(setting, terminal)
-        equal("on a terminal", os.read(screen, 4096).decode(), f"lra: reading {setting.journal}: 0 of 0 MB\r\n")
+        seconds = int(time.monotonic() - begun)
+        # (a busy machine may hold it up for another second)
+        lines = os.read(screen, 4096).decode().splitlines(True)
+        equal("on a terminal", set(lines), {f"lra: reading {setting.journal}: 0 of 0 MB\r\n"})
+        check(f"{len(lines)} lines in {seconds} s", len(lines) <= seconds)
     finally:
         os.close(terminal)
         os.close(screen)
@@ -361,6 +368,7 @@ class Stopping(Service):
 
     def stop(self):
         """Ends its standard input."""
+        self.stopped = time.monotonic()
         self.process.stdin.close()
 
     def ended(self, seconds=PATIENCE):
@@ -380,7 +388,7 @@ class Stopping(Service):
 def ends(service, least=0.0, most=LATE):
     status, seconds, said = service.ended()
     equal("the status, and what is said", (status, said), (0, ""))
-    check(f"it ended after {seconds:.1f} s", least <= seconds <= most)
+    check(f"it ended after {seconds:.1f} s", time.monotonic() - service.stopped >= least and seconds <= most)
     return f"{seconds:.2f} s"
 
 
@@ -492,11 +500,11 @@ def test_no_limit_fires_after_the_end_of_standard_input(setting):
     with Participant(answer) as member, Stopping(setting) as service, service.client() as client:
         action = client.start()
         client.join(action, **member.addresses("compensate"))
-        late = client.start(limit=3000)
+        late = client.start(limit=5000)
         client.end(action, "cancel")
         member.wait("compensate")
         service.stop()
-        time.sleep(5)
+        time.sleep(7)
         release.set()
         ends(service)
     ended = [it.fields[0] for it in journal.entries(setting.journal) if it.deed == "cancel"]
@@ -509,7 +517,8 @@ def test_a_client_that_takes_no_replies_holds_the_end_up_for_ten_seconds(setting
         with service.client(keep=False) as client:
             request = f"GET /lra-coordinator/{id_of(client.start())} HTTP/1.1\r\nHost: h\r\n\r\n".encode()
         stream.sendall(request * REQUESTS)
-        time.sleep(1)
+        # It has sent what the client's buffer holds, and waits to send the rest.
+        calm(service)
         service.stop()
         return ends(service, PARTING - 1, PARTING + LATE)
 
@@ -573,10 +582,13 @@ def test_connections_past_those_that_are_set_close_the_one_that_has_been_idle_lo
         streams = []
         for _ in range(3):
             streams.append(service.connect())
+            # Once it is answered the service has it, and from then on it is idle.
+            streams[-1].sendall(UNKNOWN)
+            check("a reply", one_reply(streams[-1])[0].startswith(b"HTTP/1.1 404 "))
             time.sleep(0.3)
         with service.client() as client:
             client.start()
-        check("the oldest is there", is_ready(streams[0], 2))
+        check("the oldest is there", is_ready(streams[0], LATE))
         equal("the oldest", received(streams[0]), (b"", True))
         check("a younger one was closed", not is_ready(streams[2], 0.2))
         for stream in streams:

@@ -1,5 +1,6 @@
 """What the system has too few of, threads, descriptors and memory: a service that lacks them says so,
 and one that serves answers."""
+import contextlib
 import os
 import re
 import resource
@@ -19,7 +20,7 @@ from folders import Folder, instance_of, put
 from files import SOUND
 from participant import Participant, wait_until
 from service import CLOSED, HOST, LATE, PATIENCE, LeftOut, Service, Telling
-from service import check, equal, free_port, id_of, is_ready, received
+from service import calm, check, equal, free_port, id_of, is_ready, received
 from watching import watched
 
 # A user of no other process, and how many threads a service of two workers has at most.
@@ -31,8 +32,6 @@ ROOM = 1
 APART = 0.005
 # How many seconds the system has no descriptor for a callback: it is tried again each second.
 LACKING = 2.5
-# How many seconds a service has to end what it has begun by itself.
-CALM = 0.5
 # The line that tells of lowered limits.
 LOWERED = re.compile(r"at most (\d+) connections and (\d+) callbacks at once: the limit of open files is 128\n")
 
@@ -131,8 +130,14 @@ class Lean(operators.WatchedFolder):
     def crowd(self):
         """Processes of the same user, which leave no thread for others."""
         threads = len(os.listdir(f"/proc/{self.process.pid}/task"))
-        words = ("setpriv", f"--reuid={self.user}", f"--regid={self.user}", "--clear-groups", "sleep", "60")
+        words = ("setpriv", f"--reuid={self.user}", f"--regid={self.user}", "--clear-groups", "sleep", "600")
         return [subprocess.Popen(words) for _ in range(THREADS - threads)]
+
+    def is_theirs(self, process):
+        """Whether a process is the user's by now, or has ended since there was no room for it."""
+        with contextlib.suppress(FileNotFoundError, ProcessLookupError):
+            return os.stat(f"/proc/{process.pid}").st_uid == self.user or process.poll() is not None
+        return True
 
 
 def test_a_thread_that_is_refused_later_is_told_and_had_later(setting):
@@ -140,13 +145,13 @@ def test_a_thread_that_is_refused_later_is_told_and_had_later(setting):
     with Lean(setting, USER + 2) as folder:
         # The journal that is there has its thread.
         folder.wait_for_next()
-        time.sleep(CALM)
+        calm(folder)
         others = folder.crowd()
         try:
-            time.sleep(CALM)
+            wait_until("that the others are there", lambda: all(map(folder.is_theirs, others)))
             actions = folder.first()
             wait_until("that health is DOWN", lambda: not folder.is_ready())
-            check("it isn't told", "thread refused" in folder.told())
+            wait_until("that it is told", lambda: "thread refused" in folder.told())
             actions += folder.first(3)
         finally:
             for other in others:
@@ -180,10 +185,8 @@ def test_a_worker_that_ends_is_told_and_the_last_one_ends_the_service(setting):
         check("it isn't ready", folder.is_ready())
         folder.end_one()
         wait_until("that health is DOWN", lambda: not folder.is_ready())
-        told = folder.told()
-        check(
-            told, "error thread ended" in told and "a thread that answered has ended: the system tells no more" in told
-        )
+        for text in ("error thread ended", "a thread that answered has ended: the system tells no more"):
+            wait_until(f"that {text!r} is told", lambda text=text: text in folder.told())
         for _ in range(3):
             folder.first()
         folder.end_one()
@@ -210,13 +213,14 @@ def test_a_callback_thread_that_is_refused_memory_goes_on(setting):
     callbacks stand still."""
     with Refusing(setting) as folder, Participant() as member:
         folder.wait_for_next()
-        time.sleep(CALM)
+        calm(folder)
         journal.write(folder.flag, b"")
         folder.first(2)
         wait_until("that health is DOWN", lambda: not folder.is_ready())
         threads = next(it for it in folder.read("/health/live", 503)["checks"] if it["name"] == "threads")
         newest = threads["data"]["callbacks_of"]
-        check(folder.told(), f"error callbacks stand journal={newest}" in folder.told())
+        line = f"error callbacks stand journal={newest}"
+        wait_until(f"that {line!r} is told", lambda: line in folder.told())
         folder.first(2)
         wait_until("that it is the newest", lambda: max(folder.journals()) == newest)
         folder.wait_for_next()
@@ -415,7 +419,7 @@ def test_no_thread_ends_whichever_allocation_of_a_request_is_refused(setting):
         service.words[:0] = counter.words()
         with service, service.client() as client:
             client.start()
-            time.sleep(CALM)
+            calm(service)
             codes = Counter(starts_without_memory(service, counter, client))
             check(f"the codes are {codes}", codes[503] and set(codes) <= {0, 201, 503})
             starts = sum(it.deed == "start" for it in journal.entries(operators.path_of(service)))

@@ -8,7 +8,7 @@ from xml.etree import ElementTree
 
 from folders import SOON, Folder
 from participant import wait_until
-from service import check, equal
+from service import PATIENCE, check, equal
 
 # 2026-11-26T22:15:01.250Z, in milliseconds from 1970 on.
 AT = 1795731301250
@@ -439,11 +439,18 @@ class Following:
         with open(self.output.name) as it:
             return it.read()
 
-    def waits_for(self, text):
-        wait_until(f"it prints {text!r}", lambda: self.read() == text)
+    def waits_for(self, *texts):
+        """Waits until it has printed one of these texts, and answers that."""
+        wait_until(f"it prints {' or '.join(map(repr, texts))}", lambda: self.read() in texts)
+        return self.read()
+
+    def last(self):
+        """What was told last of each journal of a folder, by its name."""
+        rows = [line.split(" ", 1) for line in self.read().splitlines()]
+        return {os.path.basename(name): words for name, words in filter(lambda row: len(row) == 2, rows)}
 
     def ends(self, status, told=""):
-        equal("the status", self.process.wait(20), status)
+        equal("the status", self.process.wait(PATIENCE), status)
         with open(self.told.name) as it:
             equal("what is told", it.read(), told)
 
@@ -539,8 +546,8 @@ def test_a_folder_that_is_followed(setting):
         following.waits_for(told)
         place.put("c.journal", "".join(lines[3:6]), "a")
         place.move("c.journal", "ended/c.journal")
-        told += "ended/c.journal " + sound(5, 2, 2)
-        following.waits_for(told)
+        # It may look before that is moved, or after it.
+        told = following.waits_for(*(f"{told}{name} {sound(5, 2, 2)}" for name in ("ended/c.journal", "c.journal")))
         place.put("ended/c.journal", "".join(lines[6:]), "a")
         told += "ended/c.journal " + sound(10, 2, 1)
         following.waits_for(told)
@@ -585,21 +592,20 @@ def test_a_folder_that_is_served_and_followed(setting):
                     client.end(action, "close")
                 wait_until("it is put away", lambda ended=ended: len(folder.ended()) == ended)
             client.start()
-        time.sleep(1.5)
-        following.process.stdin.close()
-        following.ends(0)
         folder.kill()
-        last = {}
-        for line in following.read().splitlines():
-            name, words = line.split(" ", 1)
-            last[os.path.basename(name)] = words
         audited = setting.run("audit", folder.folder)
         equal("the audit's status", audited.status, 0)
-        names = sorted(name + ".journal" for name in folder.journals() + folder.ended())
-        equal("the journals that were followed", sorted(last), names)
+        wanted = {}
         for line in audited.output.splitlines()[:-1]:
             name, _, _, entries, _, actions, _, unended, *_ = line.split()
-            equal(name, last[os.path.basename(name)] + "\n", sound(entries, actions, unended))
+            wanted[os.path.basename(name)] = sound(entries, actions, unended).strip()
+        names = sorted(name + ".journal" for name in folder.journals() + folder.ended())
+        equal("the journals that are audited", sorted(wanted), names)
+        # It looks some times a second.
+        wait_until("that all is followed", lambda: following.last() == wanted)
+        following.process.stdin.close()
+        following.ends(0)
+        equal("what was told last of each", following.last(), wanted)
 
 
 def test_what_cannot_be_read(setting):

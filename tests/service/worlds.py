@@ -6,6 +6,7 @@ import itertools
 import os
 import re
 import socket
+import statistics
 import struct
 import termios
 import threading
@@ -17,7 +18,7 @@ from asks import lateness_of_limits
 from crowds import UNKNOWN, close_all, one_reply, room_for
 from participant import Participant, plain, wait_until
 from patience import serves
-from service import HOST, LATE, PATIENCE, check, equal, id_of, number_of, reset
+from service import HOST, LATE, PATIENCE, check, equal, id_of, least_share, number_of, reset
 
 START = b"POST /lra-coordinator HTTP/1.1\r\nHost: h\r\n\r\n"
 LOCATION = re.compile(rb"^Location: (\S+)\r$", re.M)
@@ -36,8 +37,8 @@ PEERS, NUDGES, NUDGERS = 500, 2, 5
 SILENT, HOSTS, LOOKS = 1000, 16, 20
 # How many such members fall due at once, each at a host of its own.
 DUE = 800
-# How many seconds late is too late for a test, which may be busy: 0.1 are wanted.
-LATE = 3
+# How many seconds late is too late for half of those that are looked at, where a test may be busy: 0.1 are wanted.
+SELDOM = 3
 # The part of a processor that is too much for a service which has nothing to do.
 MUCH = 0.1
 
@@ -281,11 +282,17 @@ def test_a_member_that_takes_and_answers_a_byte_at_a_time_is_heard(setting):
         return f"{len(requests[0])} bytes taken, {len(answer)} answered"
 
 
-def share(service, seconds):
-    """Which part of a processor a service takes for so long."""
-    used = service.seconds()
-    time.sleep(seconds)
-    return (service.seconds() - used) / seconds
+def check_late(what, seconds):
+    """Fails where half of these are later than a test makes them, or one is later than a busy machine makes it."""
+    text = f"{what} {statistics.median(seconds):.2f} s late, and {max(seconds):.2f} s at most"
+    check(text, min(seconds) >= 0 and statistics.median(seconds) < SELDOM and max(seconds) < LATE)
+
+
+def check_rests(service, seconds):
+    """Fails where a service that has nothing to do takes a processor for so long."""
+    spent = least_share(service, seconds)
+    check(f"it takes {spent:.2f} of a processor", spent < MUCH)
+    return spent
 
 
 def test_files_that_are_few_are_shared(setting):
@@ -301,20 +308,19 @@ def test_files_that_are_few_are_shared(setting):
     ):
         action = client.start()
         client.join(action, **member.addresses("compensate"))
-        slowest = 0
+        waits = []
         for _ in range(MORE):
             begun = time.monotonic()
             stream = open_ones.enter_context(service.connect())
             stream.sendall(UNKNOWN)
             check("a reply", one_reply(stream)[0].startswith(b"HTTP/1.1 404 "))
-            slowest = max(slowest, time.monotonic() - begun)
-        check(f"a newcomer waits for {slowest:.2f} s", slowest < LATE)
+            waits.append(time.monotonic() - begun)
+        check_late("newcomers are answered", waits)
         equal("a close", client.end(action, "cancel"), "Cancelling")
         member.wait("compensate")
         wait_until("the end", lambda: client.status(action) == "Cancelled")
-        spent = share(service, 3)
-        check(f"it takes {spent:.2f} of a processor", spent < MUCH)
-        return f"{MORE} clients, the slowest after {slowest:.2f} s, {spent:.3f} of a processor"
+        spent = check_rests(service, 3)
+        return f"{MORE} clients, the slowest after {max(waits):.2f} s, {spent:.3f} of a processor"
 
 
 def wakes(service):
@@ -347,28 +353,23 @@ def nudge(streams, counts):
         time.sleep(0.01)
 
 
-def check_settled(service):
-    """Fails where a service that has nothing to do takes a processor."""
-    time.sleep(0.2)
-    spent = share(service, 1)
-    check(f"it takes {spent:.2f} of a processor", spent < MUCH)
-
-
 def test_polls_of_clients_that_are_woken_for_nothing(setting):
-    with setting.serve(4) as service, service.client() as client, contextlib.ExitStack() as open_ones:
+    patient = setting.serve(4)
+    patient.words[2:2] = ["--idle-timeout", "600"]
+    with patient as service, service.client() as client, contextlib.ExitStack() as open_ones:
         room_for(service, PEERS)
         before, counts = wakes(service), Counter()
         for _ in range(EMPTY // AT_ONCE):
             close_all([service.connect() for _ in range(AT_ONCE)])
             client.start()
-        check_settled(service)
+        check_rests(service, 1)
         peers = [open_ones.enter_context(service.connect()) for _ in range(PEERS)]
         nudging = threading.Thread(target=nudge, args=(peers, counts))
         nudging.start()
         told = [client.start()]
         while nudging.is_alive():
             told.append(client.start())
-        check_settled(service)
+        check_rests(service, 1)
         for stream in peers:
             stream.sendall(UNKNOWN)
             check("a reply", one_reply(stream)[0].startswith(b"HTTP/1.1 404 "))
@@ -393,8 +394,10 @@ def come(listener, count):
 
 def test_polls_of_callbacks_that_are_woken_for_nothing(setting):
     each = 64 // 2
+    patient = setting.serve(1)
+    patient.words[2:2] = ["--callback-timeout", "600"]
     with (
-        setting.serve(1) as service,
+        patient as service,
         Participant() as other,
         service.client() as client,
         contextlib.ExitStack() as open_ones,
@@ -415,7 +418,7 @@ def test_polls_of_callbacks_that_are_woken_for_nothing(setting):
             beside = cancelled(client, other.uri("u"))
             wait_until("another end", lambda beside=beside: client.status(beside) == "Cancelled")
             others += 1
-        check_settled(service)
+        check_rests(service, 1)
         for stream in streams:
             stream.sendall(ANSWERS[0])
         wait_until("all ends", lambda: all(client.status(action) == "Cancelled" for action in actions))
@@ -461,11 +464,10 @@ def test_a_thousand_silent_members_hold_up_nobody(setting):
         late = [called_after(client, member, f"c{place}") for place in range(LOOKS)]
         wait_until("the limits", lambda: all(client.status(action) == "Cancelled" for action in limits))
         passed = lateness_of_limits(setting.journal)
-        check(f"only {len(asked(setting))} members are asked", len(asked(setting)) >= SILENT)
-        check(f"a member is called after {max(late):.2f} s", max(late) < LATE)
-        check(
-            f"a limit is {max(passed)} ms late", len(passed) == LOOKS and 0 <= min(passed) and max(passed) < 1000 * LATE
-        )
+        wait_until(f"that {SILENT} members are asked", lambda: len(asked(setting)) >= SILENT)
+        check_late("a member is called", late)
+        equal("the limits that have passed", len(passed), LOOKS)
+        check_late("a limit passes", [milliseconds / 1000 for milliseconds in passed])
         return (
             f"a good member is called after {1000 * max(late):.0f} ms at most, "
             f"a limit fires {max(passed)} ms late at most"
@@ -486,5 +488,5 @@ def test_silent_members_that_fall_due_at_once_hold_up_nobody(setting):
         client.end(action, "cancel")
         wait_until("the asks", lambda: len(asked(setting)) == DUE)
         late = [called_after(client, member, f"c{place}") for place in range(LOOKS)]
-        check(f"a member is called after {max(late):.2f} s", max(late) < LATE)
+        check_late("a member is called", late)
         return f"a good member is called after {1000 * max(late):.0f} ms at most"
