@@ -79,9 +79,9 @@ class Tally:
         left = service.left_over()
         if left:
             self.add("failed", f"processes are left: {left}")
-        for line in self.failures:
-            print(line)
-        print(f"{self.suite}: {self.counts['passed']} passed, {self.counts['failed']} failed")
+        # At once, so that nothing that a thread tells of its end comes in between.
+        last = f"{self.suite}: {self.counts['passed']} passed, {self.counts['failed']} failed"
+        print("\n".join([*self.failures, last]), flush=True)
         return 1 if self.counts["failed"] else 0
 
 

@@ -40,7 +40,7 @@ def last(place):
 
 def quick(place, **more):
     """A coordinator of a stand-in, which isn't called for long."""
-    return Coordinator(place.base, **{"timeout": 2, "patience": 2, **more})
+    return Coordinator(place.base, **{"timeout": 10, "patience": 2, **more})
 
 
 def refusals(setting):
@@ -251,7 +251,7 @@ def test_a_block_tells_that_its_limit_has_passed(_):
 
 def test_what_a_block_raises_isnt_hidden_by_a_cancel_that_fails(_):
     with StandIn() as place:
-        coordinator = quick(place, timeout=0.2, patience=0)
+        coordinator = quick(place, patience=0)
         try:
             with coordinator.start() as trip:
                 place.actions[trip.id]["status"] = "Closed"

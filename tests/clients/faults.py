@@ -6,11 +6,14 @@ import time
 
 import raxunto
 from exchanges import quick, raised
+from participant import wait_until
 from raxunto import Coordinator
 from service import HOST, LATE, check, equal, free_port
 from standin import DROPPED, LAST, LOST, RESET, SILENT, Part, Says, Slow, StandIn, reply
 
 COMPENSATE = "http://p.test/u"
+# How often something is tried that a busy machine may hold up.
+TRIES = 10
 # Where a reply may break off: at its front, in its first line, in a field, behind the head, and in the body.
 PLACES = (0, 1, 9, 12, 40, 70, -60, -20, -1)
 
@@ -80,7 +83,7 @@ def test_a_start_that_is_refused_isnt_repeated(_):
 
 def test_a_start_is_repeated_where_no_connection_came_about(_):
     port = free_port()
-    coordinator = Coordinator(f"http://{HOST}:{port}/", patience=5)
+    coordinator = Coordinator(f"http://{HOST}:{port}/", patience=30)
     place = StandIn()
 
     def come_up():
@@ -101,11 +104,11 @@ def test_nobody_is_there(_):
     error = raised(raxunto.Unreachable, coordinator.start)
     check("it isn't done", not error.maybe_done)
     check(f"it says so: {error}", "was not sent" in str(error))
-    check("it takes its patience", time.monotonic() - begun < 3)
+    check("it takes its patience", time.monotonic() - begun < LATE)
     begun = time.monotonic()
     hasty = Coordinator(f"http://{HOST}:{free_port()}/", patience=0)
     raised(raxunto.Unreachable, hasty.start)
-    check("without patience it takes no time", time.monotonic() - begun < 2)
+    check("without patience it takes no time", time.monotonic() - begun < LATE)
 
 
 def test_a_name_that_leads_nowhere(_):
@@ -127,6 +130,16 @@ def test_a_refusal_that_may_pass_is_sent_again(_):
             equal(f"requests after {name}", len(place.requests), 2)
 
 
+def soon(what, seconds, deed):
+    """Fails where that takes so many seconds each time: a busy machine holds it up now and then."""
+    took = []
+    while len(took) < TRIES and (not took or took[-1] >= seconds):
+        begun = time.monotonic()
+        deed()
+        took.append(time.monotonic() - begun)
+    check(f"{what} it takes {took} s", took[-1] < seconds)
+
+
 # Values of Retry-After that name no seconds.
 UNHEEDED = ("", "soon", "-1", "1.5", "0x1", "9" * 30, "Wed, 21 Oct 2065 07:28:00 GMT", "\u00b2")
 
@@ -138,7 +151,7 @@ def refused_later(value):
 
 def test_a_reply_that_says_when_to_ask_again_is_heeded(_):
     with StandIn() as place:
-        trip = quick(place, patience=5).start()
+        trip = quick(place, patience=20).start()
         place.faults = [refused_later(1)]
         begun = time.monotonic()
         equal("the status", trip.status(), "Active")
@@ -146,13 +159,15 @@ def test_a_reply_that_says_when_to_ask_again_is_heeded(_):
         place.faults = [refused_later(10**9 - 1)]
         begun = time.monotonic()
         error = raised(raxunto.Stopped, trip.status)
-        check("nothing is waited for that comes too late", time.monotonic() - begun < 1)
+        check("nothing is waited for that comes too late", time.monotonic() - begun < LATE)
         equal("what the error says", error.retry_after, 10**9 - 1)
         for value in UNHEEDED:
-            place.faults = [refused_later(value)]
-            begun = time.monotonic()
-            equal(f"after {value!r}", trip.status(), "Active")
-            check(f"it waits as ever after {value!r}", time.monotonic() - begun < 1)
+
+            def ask(value=value):
+                place.faults = [refused_later(value)]
+                equal(f"after {value!r}", trip.status(), "Active")
+
+            soon(f"after {value!r}, where it waits as ever,", 1, ask)
 
 
 def test_a_proxy_that_doesnt_reach_the_coordinator_is_asked_again(_):
@@ -169,11 +184,11 @@ def test_a_proxy_that_doesnt_reach_the_coordinator_is_asked_again(_):
 
 def test_patience_has_an_end(_):
     with StandIn() as place:
-        trip = quick(place, patience=0.6).start()
+        trip = quick(place, patience=3).start()
         place.faults = 1000 * [Says(reply(503, {"error": "Stopped"}), True)]
         begun = time.monotonic()
         raised(raxunto.Stopped, trip.status)
-        check("time", 0.1 < time.monotonic() - begun < 3)
+        check("time", 0.1 < time.monotonic() - begun < 3 + LATE)
         check(f"{len(place.requests)} requests", 3 <= len(place.requests) <= 12)
 
 
@@ -183,7 +198,7 @@ def test_a_connection_that_ended_is_replaced_before_a_request(_):
         for _ in range(5):
             place.faults = [LAST]
             coordinator.start()
-            time.sleep(0.05)
+            wait_until("the end of the connection", lambda: place.ended == place.connections)
         equal("starts and connections", (len(place.actions), place.connections), (5, 5))
 
 
@@ -214,27 +229,34 @@ def test_a_kept_connection_that_breaks_counts_as_no_try(_):
 def test_a_start_takes_no_connection_that_was_idle_for_long(_):
     with StandIn() as place:
         coordinator = quick(place)
-        coordinator.start()
-        coordinator.start()
-        equal("connections at once", place.connections, 1)
+
+        def start():
+            """Starts an action, and answers how many connections that took."""
+            before = place.connections
+            coordinator.start()
+            return place.connections - before
+
+        start()
+        # (a busy machine may let so long pass that the connection has been idle)
+        check("connections at once", any(start() == 0 for _ in range(TRIES)))
         time.sleep(1.1)
-        coordinator.start()
-        equal("connections later", place.connections, 2)
+        equal("connections later", start(), 1)
         time.sleep(1.1)
+        before = place.connections
         coordinator.status(place.base + "lra-coordinator/" + next(iter(place.actions)))
-        equal("connections for a read", place.connections, 2)
+        equal("connections for a read", place.connections - before, 0)
 
 
 def test_slow_and_missing_answers_have_their_time(_):
     for fault in (SILENT, Slow(0.02), Slow(0.3)):
         with StandIn() as place:
-            coordinator = quick(place, timeout=0.5, patience=0)
-            trip = coordinator.start()
+            coordinator = quick(place, timeout=1.5, patience=0)
+            trip = coordinator.action(quick(place).start().uri)
             for call in (trip.status, coordinator.start):
                 place.faults = [fault]
                 begun = time.monotonic()
                 error = raised(raxunto.Unreachable, call)
-                check(f"{fault} takes {time.monotonic() - begun:.1f} s", 0.3 < time.monotonic() - begun < 3)
+                check(f"{fault} takes {time.monotonic() - begun:.1f} s", 1 < time.monotonic() - begun < 1.5 + LATE)
                 check("it may be done", error.maybe_done)
             equal("the next one", trip.status(), "Active")
 
@@ -257,7 +279,7 @@ def test_a_wait_for_who_says_nothing_has_its_time(_):
         for seconds, least in ((0, 0.9), (1.5, 1.4)):
             begun = time.monotonic()
             check("it may be done", raised(raxunto.Unreachable, trip.wait, seconds).maybe_done)
-            check(f"{seconds} s take {time.monotonic() - begun:.1f} s", least < time.monotonic() - begun < 5)
+            check(f"{seconds} s take {time.monotonic() - begun:.1f} s", least < time.monotonic() - begun < LATE)
 
 
 def test_a_wait_in_which_answers_cease_returns_what_was_told(_):
@@ -270,13 +292,13 @@ def test_a_wait_in_which_answers_cease_returns_what_was_told(_):
                 raised(raxunto.Stopped, trip.wait, 1.5)
             else:
                 equal(f"what was told before {fault}", trip.wait(1.5), "Active")
-            check(f"{fault} takes {time.monotonic() - begun:.1f} s", 0.5 < time.monotonic() - begun < 5)
+            check(f"{fault} takes {time.monotonic() - begun:.1f} s", 0.5 < time.monotonic() - begun < LATE)
     with StandIn() as place:
         trip = quick(place, patience=0).start()
         place.faults = [None, DROPPED, DROPPED]
         begun = time.monotonic()
         raised(raxunto.Unreachable, trip.wait, 30)
-        check("its patience is over before", time.monotonic() - begun < 5)
+        check("its patience is over before", time.monotonic() - begun < LATE)
 
 
 def test_a_leave_whose_reply_was_lost_has_left(_):

@@ -5,7 +5,7 @@ import time
 import raxunto
 from exchanges import ACTION, quick, raised
 from raxunto import Coordinator
-from service import check, equal
+from service import LATE, check, equal
 from standin import Says, StandIn, reply
 
 STATUS = {"lra": ACTION, "status": "Active"}
@@ -102,7 +102,7 @@ def test_interim_replies_without_end_have_their_time(_):
     with StandIn(Says(200_000 * b"HTTP/1.1 100 Continue\r\n\r\n", True)) as place:
         begun = time.monotonic()
         raised(raxunto.Unreachable, quick(place, timeout=0.5, patience=0).start)
-        check("time", time.monotonic() - begun < 8)
+        check("time", time.monotonic() - begun < 2 * LATE)
 
 
 def test_identifiers_in_replies_are_looked_at(_):

@@ -133,7 +133,8 @@ def test_who_leaves_isnt_asked(setting):
 
 def test_limits(setting):
     with shops(setting) as (coordinator, shop, port):
-        short, renewed, endless = (coordinator.start(limit=it) for it in (1500, 1500, 0))
+        # The short one leaves a member time to join.
+        short, renewed, endless = (coordinator.start(limit=it) for it in (6000, 6000, 0))
         renewed.renew(60_000)
         short.join(**shop.addresses(port, short, "compensate"))
         wait_until("the limit", lambda: short.status() == "Cancelled")

@@ -7,7 +7,7 @@ import time
 
 import raxunto
 from exchanges import quick, raised
-from service import HOST, LeftOut, check, equal
+from service import HOST, LATE, LeftOut, check, equal
 from standin import DROPPED, LAST, LOST, SILENT, Part, Slow, StandIn
 
 WORDS = ("openssl", "req", "-x509", "-newkey", "ec", "-pkeyopt", "ec_paramgen_curve:P-256", "-nodes", "-days", "1")
@@ -46,13 +46,13 @@ def test_calls_over_tls(setting):
 def test_slow_answers_over_tls(setting):
     server, client = certificate(setting)
     with StandIn(tls=server) as place:
-        coordinator = quick(place, context=client, timeout=0.5, patience=0)
-        trip = coordinator.start()
+        coordinator = quick(place, context=client, timeout=1.5, patience=0)
+        trip = coordinator.action(quick(place, context=client).start().uri)
         for fault in (SILENT, Slow(0.02)):
             place.faults = [fault]
             begun = time.monotonic()
             raised(raxunto.Unreachable, trip.status)
-            check("time", time.monotonic() - begun < 3)
+            check("time", time.monotonic() - begun < 1.5 + LATE)
 
 
 def test_a_certificate_that_nobody_vouches_for_is_told_at_once(setting):
@@ -62,7 +62,7 @@ def test_a_certificate_that_nobody_vouches_for_is_told_at_once(setting):
             coordinator = quick(place, context=client if is_trusted else None, patience=20)
             begun = time.monotonic()
             check("nothing was sent", not raised(raxunto.Unreachable, coordinator.start).maybe_done)
-            check("it takes no time", time.monotonic() - begun < 5)
+            check("it takes no time", time.monotonic() - begun < LATE)
             equal("requests", place.requests, [])
 
 

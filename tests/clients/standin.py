@@ -52,7 +52,7 @@ class StandIn:
         # Whether members hold up the end of their action.
         self.members_wait = members
         self.requests = []
-        self.connections = 0
+        self.connections = self.ended = 0
         self.actions = {}
         self.members = {}
         self.lock = threading.Lock()
@@ -99,6 +99,8 @@ class StandIn:
             pass
         finally:
             stream.close()
+            with self.lock:
+                self.ended += 1
 
     def answer(self, stream, request):
         """Answers a request, and says whether the connection goes on."""
