@@ -16,7 +16,7 @@ sys.path.append(f"{ROOT}/tools")
 import ptrace
 
 # The calls by their numbers, and the place of the argument that names the file: a descriptor, a path, or none.
-BY_DESCRIPTOR = {1: ("write", 0), 74: ("fsync", 0), 75: ("fdatasync", 0), 77: ("ftruncate", 0)}
+BY_DESCRIPTOR = {1: ("write", 0), 73: ("flock", 0), 74: ("fsync", 0), 75: ("fdatasync", 0), 77: ("ftruncate", 0)}
 BY_PATH = {82: ("rename", 1), 83: ("mkdir", 0), 86: ("link", 1), 87: ("unlink", 0), 257: ("openat", 1)}
 CALLS = {**BY_DESCRIPTOR, **BY_PATH, 41: ("socket", None)}
 

@@ -696,6 +696,45 @@ def nearly_full(setting, port, entries, after="*"):
     put(setting, SEVENTH + ".journal", begun + b"1 7 restart\n" * (entries - 3))
 
 
+def is_refused(folder, line):
+    """A start over a folder ends with status 2 and that line, after any that it tells of other files."""
+    run = refused(folder)
+    equal("the end", (run.status, run.output, run.told.splitlines()[-1]), (2, "", line))
+
+
+def test_a_journal_with_no_room_for_a_start_ends_that_and_is_named(setting):
+    """The first clerk and its restart have room, or not; each other thread's clerk takes an entry."""
+    for room in (1, 4):
+        nearly_full(setting, 1, ENTRIES - room)
+        folder = Folder(setting, workers=3)
+        is_refused(folder, f"lra: {folder.path(SEVENTH)}.journal is full")
+
+
+def restarts_up_to(room):
+    """A journal that leaves fewer than so many bytes and no fewer than 12 less of a page of the disk."""
+    data = b"lra-journal 2 7\n1 0 enrol\n"
+    while not room - 12 <= -len(data) % 4096 < room:
+        data += b"1 7 restart\n"
+    return data
+
+
+def test_a_full_disk_ends_a_start_and_the_journal_is_named(setting):
+    """The first clerk and its restart have room on its last page, or not; the clerks of other threads have none."""
+    with small_disk(f"{setting.folder}/journals"):
+        folder = Folder(setting)
+        with folder:
+            folder.kill()
+        for name in os.listdir(folder.folder):
+            if name.endswith((".journal", ".next")):
+                os.remove(folder.path(name))
+        for room in (20, 65):
+            put(setting, SEVENTH + ".journal", restarts_up_to(room))
+            fill(folder.path("filler"))
+            is_refused(folder, f"lra: cannot write {folder.path(SEVENTH)}.journal")
+            os.remove(folder.path("filler"))
+            os.remove(folder.path(SEVENTH + ".journal"))
+
+
 def line_of(folder, said):
     """What is told of the journal that is nearly full."""
     return f"lra: {folder.path(SEVENTH)}.journal has {said}\n"

@@ -33,6 +33,17 @@ SOME_ALLOCATIONS = 8
 ANSWERS = {200, 201, 202, 503}
 # The steps by which the next journal comes, and those by which one is archived: a call, and its file.
 NEXT_STEPS = (("write", "/newest.next$"), ("rename", "/newest$"), ("openat", "[0-9a-f].next$"), ("rename", ".journal$"))
+# Some of them, each with a name, an error of the system and the line that tells it.
+MEMORY, MANY = "lra: out of memory\n", "lra: too many files are open for "
+REASONS = (
+    ("openat", "/newest.next$", "memory", errno.ENOMEM, MEMORY),
+    ("openat", "/newest.next$", "process", errno.EMFILE, MANY + "{folder}\n"),
+    ("openat", "/newest.next$", "machine", errno.ENFILE, MANY + "{folder}\n"),
+    ("openat", "/journals$", "memory", errno.ENOMEM, MEMORY),
+    ("openat", "/journals$", "process", errno.EMFILE, MANY + "a next journal of {folder}\n"),
+    ("openat", "[0-9a-f].next$", "process", errno.EMFILE, MANY + "{folder}/[0-9a-f]{{15}}.next\n"),
+    ("flock", "[0-9a-f].next$", "locks", errno.ENOLCK, "lra: cannot write {folder}/[0-9a-f]{{15}}.next\n"),
+)
 # Those that a sync of the folder follows.
 SYNCED_STEPS = (NEXT_STEPS[0], NEXT_STEPS[3])
 ARCHIVE_STEPS = (
@@ -338,6 +349,23 @@ def fail_next(setting, step):
         return tries
 
 
+def tell_reason(setting, reason):
+    """Has a step for the next journal fail for one of the system's reasons, which is told. What it began is removed."""
+    *step, error, line = reason
+    with Stubborn(setting, step) as service:
+        service.wait_for_next()
+        service.deny(denial(*step[:2], error))
+        actions = service.first(4)
+        service.check_fails(NEXT_TAKES)
+        told, wanted = service.told(), line.format(folder=re.escape(service.folder))
+        check(f"it tells {told!r}, and not {wanted!r}", re.fullmatch(wanted, told))
+        equal("what is left", [name for name in os.listdir(service.folder) if name.endswith(".next")], [])
+        service.allow()
+        service.wait_for_next()
+        check_all(service, actions)
+        return 1
+
+
 def fail_sync(setting, step):
     """Has the sync of the folder fail that follows a step for the next journal: what the step did could be lost, so the
     service ends, and what was answered is there afterwards."""
@@ -392,6 +420,10 @@ def try_steps(setting, one, steps):
 
 def test_a_step_for_the_next_journal_that_fails_is_repeated(setting):
     return try_steps(setting, fail_next, NEXT_STEPS)
+
+
+def test_a_step_for_the_next_journal_fails_for_the_reason_that_is_told(setting):
+    return try_steps(setting, tell_reason, REASONS)
 
 
 def test_a_sync_of_the_folder_that_fails_ends_the_service(setting):

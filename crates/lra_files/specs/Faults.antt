@@ -1,7 +1,7 @@
 -- Reasons why the system gives no file.
 use Rattle.std.specs.Prelude.{ℕ, ℤ, Bool, true, false, cond, nat_eq, unsigned_abs, Option, None, Some}
-use Rattle.std_io.specs.declared.io.kind.ErrorKind.{ErrorKind}
-use Rattle.std_io.specs.declared.io.kind.ErrorKind.TheVariants.{OutOfMemory}
+use Rattle.std.specs.declared.io.ErrorKind.{ErrorKind}
+use Rattle.std.specs.declared.io.ErrorKind.TheVariants.{OutOfMemory}
 use Rattle.lra_files.specs.declared.faults.FileFault.{FileFault}
 use Rattle.lra_files.specs.declared.faults.FileFault.TheVariants as fault
 

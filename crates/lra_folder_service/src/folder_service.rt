@@ -18,7 +18,7 @@ use lra_durable::SyncGroup;
 use lra_event_loop::AcceptQueue;
 use lra_folders::stray_line;
 use lra_ids::Base;
-use lra_journal_factory::{FolderOptions, JournalFactory, Opener, first_open};
+use lra_journal_factory::{FolderOptions, JournalFactory, Opener, first_open, open_for};
 use lra_journal_folder::{Contents, Folder, GivenUp, RollingFault, Sound, told};
 use lra_logs::{Event, EventSink};
 use lra_model::{Instance, Memory};
@@ -44,6 +44,10 @@ use std::time::Clock;
 
 /// Largest number of bytes of a journal.
 const MOST_BYTES: u64 = 1 << 30;
+
+/// Line that says that the fence has fallen.
+pub(crate) const FENCE_LOST: &str =
+    "lra: the fence is another's now: nothing is written any more\n";
 
 /// Returns the limits of a journal's counts.
 fn limit_of(settings: &Settings) -> Counts {
@@ -161,6 +165,14 @@ fn numbers_of(alloc: Global, instances: &[Instance]) -> Result<Vec<u64>, Memory>
 }
 
 impl<'a, R, V, H> FolderService<'a, R, V, H> {
+    /// Returns how many threads get a session of each journal: the connection workers, the journal's callback worker,
+    /// and the operators' server, if there is one.
+    fn threads(&self) -> u32 {
+        self.workers
+            .saturating_add(1)
+            .saturating_add(self.operators_context.threads())
+    }
+
     /// Returns the settings of the folder's rotation.
     fn rotation_settings(&self) -> RotationSettings {
         RotationSettings {
@@ -263,10 +275,7 @@ impl<'a, R: Files<File = File> + AllocGlobal + Clone + Drop, V, H> FolderService
             storage: self.storage,
             opener,
             folder: self.folder,
-            threads: self
-                .workers
-                .saturating_add(1)
-                .saturating_add(self.operators_context.threads()),
+            threads: self.threads(),
         }
     }
 
@@ -309,7 +318,7 @@ impl<R: Files<File = File> + AllocGlobal + Clone + Drop, V, H: Notifier> FolderS
         }
         match self.folder.note_base(base) {
             Ok(()) => Ok(()),
-            Err(_) => Err(RollingFault::Here(ServeFault::File)),
+            Err(error) => Err(self.folder.write_fault(&error)),
         }
     }
 
@@ -323,8 +332,13 @@ impl<R: Files<File = File> + AllocGlobal + Clone + Drop, V, H: Notifier> FolderS
     }
 }
 
-impl<R: Files<File = File> + AllocGlobal + Clock, V: Notifier, H> FolderService<'_, R, V, H> {
-    /// Opens a journal that was found sound.
+impl<R: Files<File = File> + AllocGlobal + Wait + Clock, V: Notifier, H> FolderService<
+    '_,
+    R,
+    V,
+    H,
+> {
+    /// Opens a journal that was found sound, with a clerk for each thread that gets a session of it.
     fn open_one<O: Opener>(
         &self,
         opener: &O,
@@ -333,8 +347,20 @@ impl<R: Files<File = File> + AllocGlobal + Clock, V: Notifier, H> FolderService<
     ) -> Result<Arc<ServedJournal<O::OwnedSession>>, RollingFault>
         requires { IsRead None sound.opening }
     {
+        let path = String::from_str(self.alloc, sound.path.as_str())?;
         let (file, opening) = sound.ready(self.rt, self.watcher)?;
-        opener.open(file, opening, moment)
+        let opened = open_for(
+            self.rt,
+            self.alloc,
+            opener,
+            path.as_str(),
+            file,
+            opening,
+            self.threads(),
+            moment,
+        );
+        drop(path);
+        opened
     }
 
     /// Opens the journals that were found sound.
@@ -510,7 +536,7 @@ impl<R: Wait, V, H: Notifier + EventSink> FolderService<'_, R, V, H> {
     /// Reports a lost fence or a failed sync. Another thread may have seen it first, and ended the service.
     fn report_failure(&self) {
         if self.storage.fail_if_lost(self.rt) {
-            self.notifier.notify("lra: the fence is another's now: nothing is written any more\n");
+            self.notifier.notify(FENCE_LOST);
         } else if self.storage.journals().has_failed(self.rt) {
             self.notifier.note(&Event::SyncFailed);
         }

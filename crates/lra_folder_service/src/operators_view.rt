@@ -89,6 +89,9 @@ fn join<R: Wait, B: JournalSession + Drop>(
     journal: &Arc<ServedJournal<B>>,
     moment: u64,
 ) -> bool {
+    if desks.reserve(1).is_err() {
+        return false;
+    }
     let Ok(theirs) = Arc::try_clone(journal) else {
         return false;
     };

@@ -5,13 +5,13 @@ ghost use Rattle.lra_ids.specs.Addresses.{is_base};
 ghost use Rattle.lra_ids.specs.Bases.{base_text};
 ghost use Rattle.lra_folder_service.specs.Outcomes.{HasSaid, IsSaid, IsOfAddress};
 
-use crate::folder_service::FolderService;
+use crate::folder_service::{FENCE_LOST, FolderService};
 use crate::operators_view::OperatorsContext;
 use lra_admission::KeyFiles;
 use lra_audits::RunFault;
 use lra_ids::Base;
 use lra_journal_factory::{FolderOptions, GivenUpNotes, OpeningContext};
-use lra_journal_folder::{Contents, Folder, GivenUp, RollingFault, Unsound, audit_all};
+use lra_journal_folder::{Contents, Folder, GivenUp, RollingFault, Unsound, audit_all, told};
 use lra_logs::EventSink;
 use lra_opening::{Notifier, ServeFault};
 use lra_operators_server::{OperatorsServer, Tallies};
@@ -20,7 +20,7 @@ use lra_settings::{Settings, taken_by_folder};
 use lra_storage::Storage;
 use std::alloc::Global;
 use std::fs::File;
-use std::io::{Read, Write};
+use std::io::{Error, ErrorKind, Read, Write};
 use std::marker::{Send, Sync};
 use std::net::{Net, TcpListener, TcpStream};
 use std::rt::Files;
@@ -77,7 +77,16 @@ fn notes_of<R: Files<File = File> + AllocGlobal + Clone + Drop>(
     }
     match folder.note_given_up(given_up) {
         Ok(file) => Ok(GivenUpNotes::new(Some(file))),
-        Err(_) => Err(RollingFault::Here(ServeFault::File)),
+        Err(error) => Err(folder.write_fault(&error)),
+    }
+}
+
+/// Returns the fault of a storage that can't be made: the fence has fallen by now, or memory is refused.
+fn storage_fault(alloc: Global, error: &Error) -> RollingFault {
+    if error.kind() == ErrorKind::PermissionDenied {
+        told(String::from_str(alloc, FENCE_LOST))
+    } else {
+        RollingFault::Here(ServeFault::Run(RunFault::Memory))
     }
 }
 
@@ -213,7 +222,7 @@ impl<
                 drop(storage);
                 served
             }
-            Err(_) => Err(RollingFault::Here(ServeFault::Run(RunFault::Memory))),
+            Err(error) => Err(storage_fault(self.alloc, &error)),
         };
         drop(operators_context);
         served

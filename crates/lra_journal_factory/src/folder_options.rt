@@ -1,8 +1,10 @@
 //! Manner in which a folder is served, beside its settings.
 
+ghost use Rattle.std.specs.Prelude.{◌≡◌};
+ghost use Rattle.lra_journal_factory.specs.FirstOpen as spec;
+
 use lra_journal_folder::{Contents, Folder, RollingFault};
 use lra_model::Instance;
-use lra_opening::ServeFault;
 use lra_storage::Fence;
 use std::fs::File;
 use std::rt::Files;
@@ -37,14 +39,16 @@ impl FolderOptions<'_> {
         };
         match folder.note_restored(newest) {
             Ok(()) => Ok(Some(newest)),
-            Err(_) => Err(RollingFault::Here(ServeFault::File)),
+            Err(error) => Err(folder.write_fault(&error)),
         }
     }
 }
 
 /// Returns the least number of an instance whose journal accepts new work. Journals up to the last one, if there is
 /// one, accept none.
-pub fn first_open(last: Option<Instance>) -> u64 {
+pub fn first_open(last: Option<Instance>) -> u64
+    ensures { result ≡ spec.first_open last }
+{
     match last {
         Some(last) => last.number().saturating_add(1),
         None => 0,

@@ -8,5 +8,5 @@ mod preparing;
 
 pub use folder_options::{FolderOptions, first_open};
 pub use notes::GivenUpNotes;
-pub use opening::{Opener, OpeningContext};
+pub use opening::{Opener, OpeningContext, open_for};
 pub use preparing::{JournalFactory, PreparedJournal};

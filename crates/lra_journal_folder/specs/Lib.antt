@@ -1,2 +1,4 @@
 pub mod GivenUp
+pub mod Faults
 pub mod Refusals
+pub mod inner

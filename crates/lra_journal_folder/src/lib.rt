@@ -8,7 +8,7 @@ mod given_up;
 mod header;
 mod reading;
 
-pub use fault::{RollingFault, fault_at, rolling_line, told};
+pub use fault::{RollingFault, error_fault, fault_at, journal_fault, rolling_line, told};
 pub use folder::{Contents, Folder};
 pub use given_up::{GivenUp, given_up_in, given_up_line};
 pub use header::header_of;

@@ -1,8 +1,11 @@
 //! One served journal of a folder.
 
+ghost use Rattle.std.specs.Prelude.{◌≡◌, IfOk};
+
 use lra_callbacks::{WorkerSlot, wake_workers};
-use lra_commands::{Query, QueryResult};
+use lra_commands::{Query, QueryResult, Refusal};
 use lra_model::{Instance, Memory};
+use lra_office::OfficeRefusal;
 use lra_outcomes::Outcomes;
 use lra_sessions::JournalSession;
 use lra_storage::JournalFile;
@@ -59,7 +62,11 @@ impl<B: JournalSession + Drop> ServedJournal<B> {
         file: Arc<JournalFile>,
         entries: u64,
         session: B,
-    ) -> Result<ServedJournal<B>, Memory> {
+    ) -> Result<ServedJournal<B>, Memory>
+        ensures file { IfOk result (λ journal. journal.file ≡ file) }
+        ensures entries { IfOk result (λ journal. journal.entries ≡ entries) }
+        ensures instance { IfOk result (λ journal. journal.instance ≡ (B.sight session).setting.instance) }
+    {
         let instance = session.instance();
         let Some((worker_slot, waker)) = WorkerSlot::new(rt) else {
             drop(file);
@@ -89,22 +96,32 @@ impl<B: JournalSession + Drop> ServedJournal<B> {
         })
     }
 
-    /// Enrols so many clerks of the journal's coordinator ahead. Returns whether all are enrolled: then as many threads
-    /// get a session later, whether or not anything can be written by then.
-    pub fn enrol_ahead<R: Wait>(&self, rt: &R, count: u32, moment: u64) -> bool {
+    /// Enrols so many clerks of the journal's coordinator ahead. If all are enrolled, as many threads get a session
+    /// later, whether or not anything can be written by then. Otherwise returns why one isn't.
+    pub fn enrol_ahead<R: Wait>(
+        &self,
+        rt: &R,
+        count: u32,
+        moment: u64,
+    ) -> Result<(), OfficeRefusal> {
         let mut sessions = self.sessions.lock(rt);
+        if sessions.ahead.reserve(count as usize).is_err() {
+            return Err(OfficeRefusal::Refused(Refusal::Memory));
+        }
         for _clerk in 0..count {
             let Some(first) = &mut sessions.first else {
-                return false;
+                return Err(OfficeRefusal::Refused(Refusal::Stopped));
             };
-            let Some(session) = first.fork(moment) else {
-                return false;
-            };
-            if sessions.ahead.push(session).is_err() {
-                return false;
+            match first.fork(moment) {
+                Ok(session) => {
+                    if sessions.ahead.push(session).is_err() {
+                        return Err(OfficeRefusal::Refused(Refusal::Memory));
+                    }
+                }
+                Err(refusal) => return Err(refusal),
             }
         }
-        true
+        Ok(())
     }
 
     /// Returns a session with a clerk of its own: one that was enrolled ahead, if any is left, or else one that is
@@ -113,8 +130,17 @@ impl<B: JournalSession + Drop> ServedJournal<B> {
         let mut sessions = self.sessions.lock(rt);
         match sessions.ahead.pop() {
             Some(session) => Some(session),
-            None => sessions.first.as_mut()?.fork(moment),
+            None => match sessions.first.as_mut()?.fork(moment) {
+                Ok(session) => Some(session),
+                Err(_) => None,
+            },
         }
+    }
+
+    /// Takes back a session that its thread can't use yet, so that the thread's next try enrols no further clerk. Where
+    /// memory is refused, ends the session.
+    pub fn take_back<R: Wait>(&self, rt: &R, session: B) {
+        let _ = self.sessions.lock(rt).ahead.push(session);
     }
 
     /// Returns the coordinator's reply to a query of its history, if it has one.

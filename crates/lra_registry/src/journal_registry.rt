@@ -1,5 +1,8 @@
 //! Journal registry.
 
+ghost use Rattle.std.specs.Prelude.{◌≡◌};
+ghost use Rattle.lra_registry.specs.inner.Following as spec;
+
 use crate::journal::ServedJournal;
 use lra_model::{Instance, Memory};
 use std::alloc::{AllocError, Global};
@@ -54,6 +57,19 @@ pub enum Following {
     Version(u64),
     /// It has ended, and holds no session any more.
     Ended,
+}
+
+/// Returns what a connection worker follows, by the version that is recorded of it.
+fn following_at(version: u64) -> Following
+    ensures { result ≡ spec.following_at version }
+{
+    if version == NO_VERSION {
+        Following::Nothing
+    } else if version == ENDED {
+        Following::Ended
+    } else {
+        Following::Version(version)
+    }
 }
 
 /// Returns the versions that connection workers follow at first.
@@ -173,13 +189,9 @@ impl<B: Drop> JournalRegistry<B> {
 
     /// Returns what is known of a connection worker.
     pub fn following(&self, worker: usize) -> Following {
-        let Some(followed) = self.followed.get(worker) else {
-            return Following::Nothing;
-        };
-        match followed.load(Ordering::SeqCst) {
-            NO_VERSION => Following::Nothing,
-            ENDED => Following::Ended,
-            version => Following::Version(version),
+        match self.followed.get(worker) {
+            Some(followed) => following_at(followed.load(Ordering::SeqCst)),
+            None => Following::Nothing,
         }
     }
 

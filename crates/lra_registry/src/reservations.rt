@@ -1,5 +1,7 @@
 //! The journals of a registry that are near their end.
 
+ghost use Rattle.std.specs.Prelude.{◌≡◌};
+
 use crate::journal_registry::JournalRegistry;
 use lra_capacity::CapacitySource;
 use lra_model::Instance;
@@ -13,7 +15,9 @@ pub struct Reservations<'s, 'a, R, B> {
 }
 
 impl<'s, 'a, R, B> Reservations<'s, 'a, R, B> {
-    pub fn new(rt: &'a R, journal_registry: &'s JournalRegistry<B>) -> Reservations<'s, 'a, R, B> {
+    pub fn new(rt: &'a R, journal_registry: &'s JournalRegistry<B>) -> Reservations<'s, 'a, R, B>
+        ensures { (result.rt ≡ rt.entry) × (result.journal_registry ≡ journal_registry.entry) }
+    {
         Reservations {
             rt,
             journal_registry,

@@ -1,5 +1,7 @@
 //! Queries that count what a journal has, and find whether anything of it is left to be done.
 
+ghost use Rattle.std.specs.Prelude.{◌≡◌, None};
+
 use crate::journal::ServedJournal;
 use lra_commands::{Listing, Query, QueryResult, Row};
 use lra_rotation::{is_done_with, is_settled};
@@ -78,7 +80,9 @@ pub(crate) struct Scan {
 
 impl Scan {
     /// Returns a scan at its beginning.
-    pub fn new() -> Scan {
+    pub fn new() -> Scan
+        ensures { (result.actions ≡ 0) × (result.members ≡ None) }
+    {
         Scan {
             actions: 0,
             members: None,

@@ -1,6 +1,6 @@
 //! The journals that a connection worker serves.
 
-ghost use Rattle.std.specs.Prelude.{IfSome};
+ghost use Rattle.std.specs.Prelude.{◌≡◌, [], false, cond, None, Some, IfSome};
 ghost use Rattle.lra_journal_router.specs.JournalRouters.{HaveBase, KeepsBase, Moved, base_of};
 
 use crate::journal::ServedJournal;
@@ -39,7 +39,10 @@ impl<'s, 'a, R: Wait, B> SetMembers<'s, 'a, R, B> {
         journal_registry: &'s JournalRegistry<B>,
         worker: u32,
         clock: SystemClock<'a, R>,
-    ) -> SetMembers<'s, 'a, R, B> {
+    ) -> SetMembers<'s, 'a, R, B>
+        ensures worker { result.worker ≡ worker }
+        ensures none { (result.mine.items ≡ []) × (result.seen ≡ NO_VERSION) × (result.is_behind ≡ false) }
+    {
         SetMembers {
             rt,
             journal_registry,
@@ -60,7 +63,9 @@ fn is_among<B: Drop>(journals: &[Arc<ServedJournal<B>>], instance: Instance) -> 
 }
 
 /// Returns a version, if it is followed.
-fn followed(is_followed: bool, version: u64) -> Option<u64> {
+fn followed(is_followed: bool, version: u64) -> Option<u64>
+    ensures { result ≡ cond is_followed (Some version) None }
+{
     if is_followed { Some(version) } else { None }
 }
 
@@ -94,7 +99,7 @@ impl<R: Wait + time::Clock, B: JournalSession + Drop> SetMembers<'_, '_, R, B> {
         match add_member(journal_set, session) {
             Ok(()) => true,
             Err(session) => {
-                drop(session);
+                journal.take_back(self.rt, session);
                 self.mine.pop();
                 false
             }

@@ -1,6 +1,7 @@
 //! Observations of a journal, for the rotation.
 
-ghost use Rattle.std.specs.Prelude.{◌≡◌};
+ghost use Rattle.std.specs.Prelude.{◌≡◌, ◌+◌, ◌-◌, ◌^◌, ◌||◌, min, true, false, None, Some};
+ghost use Rattle.lra_rotation.specs.Limits.{longer_pause};
 
 use crate::journal::ServedJournal;
 use crate::scanning::{Scan, ScanKind, Scanned};
@@ -54,7 +55,10 @@ pub struct JournalMonitor<B> {
 
 impl<B: Drop> JournalMonitor<B> {
     /// Returns a journal of which nothing was observed yet, at a moment.
-    pub fn new(journal: Arc<ServedJournal<B>>, now: u64) -> JournalMonitor<B> {
+    pub fn new(journal: Arc<ServedJournal<B>>, now: u64) -> JournalMonitor<B>
+        ensures journal { (result.journal ≡ journal) × (result.since ≡ now) }
+        ensures open { (result.is_full ≡ false) × (result.has_left ≡ false) × (result.scan ≡ None) }
+    {
         JournalMonitor {
             journal,
             actions: 0,
@@ -73,7 +77,12 @@ impl<B: Drop> JournalMonitor<B> {
 
     /// Records that a try to withdraw or archive the journal failed at a moment. The next one comes after a pause,
     /// which is longer each time. Returns whether the reason is another one than before.
-    pub fn put_off(&mut self, why: ErrorKind, now: u64) -> bool {
+    pub fn put_off(&mut self, why: ErrorKind, now: u64) -> bool
+        ensures pause { self.new.pause ≡ longer_pause self.old.pause }
+        ensures retry { self.new.retry ≡ min (2 ^ 64 - 1) (now + longer_pause self.old.pause) }
+        ensures why { self.new.why ≡ Some why }
+        ensures same { self.new.journal ≡ self.old.journal }
+    {
         self.pause = longer_pause(self.pause);
         self.retry = now.saturating_add(self.pause);
         let is_new = self.why != Some(why);
@@ -82,7 +91,10 @@ impl<B: Drop> JournalMonitor<B> {
     }
 
     /// Records that the next journal is to replace this one, though it hasn't reached the counts for that.
-    pub fn give_way(&mut self) {
+    pub fn give_way(&mut self)
+        ensures full { self.new.is_full ≡ true }
+        ensures same { self.new.journal ≡ self.old.journal }
+    {
         self.is_full = true;
     }
 
@@ -94,7 +106,9 @@ impl<B: Drop> JournalMonitor<B> {
     }
 
     /// Returns the journal.
-    pub fn into_journal(self) -> Arc<ServedJournal<B>> {
+    pub fn into_journal(self) -> Arc<ServedJournal<B>>
+        ensures { result ≡ self.journal }
+    {
         let JournalMonitor {
             journal,
             actions: _,
@@ -199,7 +213,10 @@ impl<B: JournalSession + Drop> JournalMonitor<B> {
 
 /// Returns whether an observation says more than that there is a journal. The rotation reads a missing observation as
 /// one that doesn't.
-fn matters(observation: &Observation) -> bool {
+fn matters(observation: &Observation) -> bool
+    ensures { result ≡ (observation.now.is_full || observation.now.is_near_end || observation.now.is_settled
+        || observation.now.is_waiting) }
+{
     observation.is_full
         || observation.is_near_end
         || observation.is_settled

@@ -38,7 +38,7 @@ use lra_settings::Settings;
 use lra_storage::{FileDisk, OpenFile, Storage};
 use std::alloc::Global;
 use std::fs::File;
-use std::io::{Read, Write};
+use std::io::{self, ErrorKind, Read, Write};
 use std::marker::{Send, Sync};
 use std::net::{Net, TcpListener, TcpStream};
 use std::rt::Files;
@@ -102,25 +102,36 @@ pub(crate) struct FileEnd {
     pub(crate) at: u64,
 }
 
-/// Opens a journal's file, and notes its syncs in the tallies. Returns `None` if the file can't be opened.
+/// Opens a journal's file, and notes its syncs in the tallies.
 fn open_disk<'a, R: Wait>(
     rt: &'a R,
     alloc: Global,
     file: File,
     tallies: &Tallies,
-) -> Option<OpenDisk<'a, R>> {
-    let at = file.metadata().ok()?.len();
+) -> io::Result<OpenDisk<'a, R>> {
+    let at = file.metadata()?.len();
     let end = FileEnd {
-        file: file.try_clone().ok()?,
+        file: file.try_clone()?,
         at,
     };
-    let storage = Storage::new(alloc, tallies.syncs(), None).ok()?;
-    let opened = storage.open(rt, file, LONGEST as u64).ok()?;
-    Some(OpenDisk {
+    let storage = Storage::new(alloc, tallies.syncs(), None)?;
+    let opened = storage.open(rt, file, LONGEST as u64)?;
+    Ok(OpenDisk {
         storage,
         opened,
         end,
     })
+}
+
+/// Returns the fault of a journal's file that can't be opened: memory is refused, or it can't be written.
+fn disk_fault(error: &io::Error) -> ServeFault
+    ensures { IsOfNoScript result }
+{
+    if error.kind() == ErrorKind::OutOfMemory {
+        ServeFault::Run(RunFault::Memory)
+    } else {
+        ServeFault::File
+    }
 }
 
 /// Returns the tallies of a service that begins.
@@ -149,13 +160,16 @@ fn open_journal_at<'a, R: Wait>(
     begun: JournalAtStart,
     moment: u64,
 ) -> Result<OpenedJournal<'a, R>, ServeFault>
-    ensures { IfErr result (λ fault. fault ≡ ServeFault.File) }
+    ensures { IfErr result IsOfNoScript }
 {
-    let Some(disk) = open_disk(rt, alloc, file, &tallies) else {
-        drop(acceptor);
-        drop(polls);
-        drop(tallies);
-        return Err(ServeFault::File);
+    let disk = match open_disk(rt, alloc, file, &tallies) {
+        Ok(disk) => disk,
+        Err(error) => {
+            drop(acceptor);
+            drop(polls);
+            drop(tallies);
+            return Err(disk_fault(&error));
+        }
     };
     let OpenDisk {
         storage,

@@ -166,8 +166,9 @@ impl<V: LockedService, R: Wait> Session for OwnedSession<V, R> {
 
 /// Clerk of an office, for code that serves several offices, whatever their journals are written to.
 pub trait JournalSession: Session {
-    /// Returns another clerk of the same office, if one can be enrolled at a moment, in milliseconds.
-    fn fork(&mut self, moment: u64) -> Option<Self>;
+    /// Enrols another clerk of the same office at a moment, in milliseconds. Returns its session, or why the office
+    /// refuses it.
+    fn fork(&mut self, moment: u64) -> Result<Self, OfficeRefusal>;
 
     /// Returns what the query asks for of the office's history, if the office reports it.
     fn query(&mut self, query: Query) -> Option<QueryResult>;
@@ -187,11 +188,8 @@ pub trait JournalSession: Session {
 }
 
 impl<V: LockedService + Drop, R: Wait + Clone + Drop> JournalSession for OwnedSession<V, R> {
-    fn fork(&mut self, moment: u64) -> Option<Self> {
-        match OwnedSession::fork(self, moment) {
-            Ok(other) => Some(other),
-            Err(_) => None,
-        }
+    fn fork(&mut self, moment: u64) -> Result<Self, OfficeRefusal> {
+        OwnedSession::fork(self, moment)
     }
 
     fn query(&mut self, query: Query) -> Option<QueryResult> {

@@ -1,6 +1,9 @@
 //! A file that says which service a journal belongs to.
 
-use lra_files::{SmallFault, read_whole};
+ghost use Rattle.std.specs.Prelude.{◌≡◌};
+ghost use Rattle.lra_storage.specs.inner.Fences as spec;
+
+use lra_files::{FileFault, SmallFault, file_fault, read_whole};
 use std::fs::File;
 use std::rt::LibcRuntime;
 use std::sync::Arc;
@@ -25,11 +28,22 @@ pub trait Fenced {
     fn fence(&self, path: &str) -> Result<Fence, SmallFault>;
 }
 
+/// Returns why the file of a name can't be read, by the fault of opening it.
+fn unread(fault: FileFault) -> SmallFault
+    ensures { result ≡ spec.unread fault }
+{
+    match fault {
+        FileFault::TooManyOpen => SmallFault::File,
+        FileFault::Memory => SmallFault::Memory,
+        FileFault::Other => SmallFault::File,
+    }
+}
+
 /// Reads the file of a name.
 fn text_at(rt: LibcRuntime, path: &str) -> Result<Vec<u8>, SmallFault> {
     match File::open(&rt, path) {
         Ok(file) => read_whole(rt.alloc(), file, LONGEST),
-        Err(_) => Err(SmallFault::File),
+        Err(error) => Err(unread(file_fault(&error))),
     }
 }
 
