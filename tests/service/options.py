@@ -37,6 +37,7 @@ NUMBERS = (
     ("remember", 3600, 1, 31536000),
     ("site", 0, 0, 65535),
     ("default-limit", 0, 1, 2**53),
+    ("retry-after", 0, 1, 3600),
 )
 # Options whose values are texts, and those of them that may be said any number of times.
 WORDS = (

@@ -10,23 +10,32 @@ use lra_steps::{Answered, Handler};
 use std::alloc::Global;
 
 /// Filter that passes on to a handler only the requests that are let in, with a source of the rules that are in force,
-/// and a notifier of denied requests. It can't be dropped, but returns the handler.
+/// and a notifier of denied requests. Replies to requests that are refused for what goes away by itself say after how
+/// many seconds to send them again, if the filter is given these. It can't be dropped, but returns the handler.
 pub struct AuthenticationFilter<A: Handler, L: KeySource, H: RefusalListener> {
     inner: A,
     latest: L,
     notifier: H,
+    retry: Option<u64>,
 }
 
 impl<A: Handler, L: KeySource + Drop, H: RefusalListener + Drop> AuthenticationFilter<A, L, H> {
     /// Puts a filter round a handler.
-    pub fn new(inner: A, latest: L, notifier: H) -> AuthenticationFilter<A, L, H>
+    pub fn new(
+        inner: A,
+        latest: L,
+        notifier: H,
+        retry: Option<u64>,
+    ) -> AuthenticationFilter<A, L, H>
         ensures inner { result.inner ≡ inner }
         ensures latest { result.latest ≡ latest }
+        ensures retry { result.retry ≡ retry }
     {
         AuthenticationFilter {
             inner,
             latest,
             notifier,
+            retry,
         }
     }
 
@@ -38,6 +47,7 @@ impl<A: Handler, L: KeySource + Drop, H: RefusalListener + Drop> AuthenticationF
             inner,
             latest,
             notifier,
+            retry: _,
         } = self;
         drop(latest);
         drop(notifier);
@@ -51,7 +61,7 @@ impl<A: Handler, L: KeySource, H: RefusalListener> Handler for AuthenticationFil
 
     ghost State = { Guard A.State };
 
-    ghost sight = { λ g. record { inner = A.sight g.inner; rules = L.in_force g.latest } };
+    ghost sight = { λ g. record { inner = A.sight g.inner; rules = L.in_force g.latest; retry = g.retry } };
 
     ghost base_of = { λ s. A.base_of s.inner };
 
@@ -74,7 +84,10 @@ impl<A: Handler, L: KeySource, H: RefusalListener> Handler for AuthenticationFil
                 self.notifier.denied(api_error);
                 Answered::denied(self.inner.instance(), api_error)
             }
-            None => self.inner.respond(alloc, moment, request),
+            None => {
+                let own = self.inner.respond(alloc, moment, request);
+                own.with_retry(self.retry)
+            }
         }
     }
 

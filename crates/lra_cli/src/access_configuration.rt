@@ -7,6 +7,7 @@ use lra_operators_server::{PortFault, read_key};
 use lra_options::{Options, OptionsFault, RawOptions, Word, wrong};
 use lra_rules::{Rule, RuleFault, Rules};
 use lra_server::{AccessPolicy, keys_trouble};
+use lra_settings::Settings;
 use lra_storage::{Fence, Fenced};
 use std::alloc::{AllocError, Global};
 use std::fs::File;
@@ -38,6 +39,8 @@ pub(crate) struct PolicyParts {
     default_limit: u64,
     /// Address of the proxy by which members are called, if they are.
     members_via: Option<SocketAddr>,
+    /// Seconds after which a request may be sent again, in replies to those refused for what goes away by itself.
+    retry_after: Option<u64>,
     fence: Option<Arc<Fence>>,
 }
 
@@ -60,6 +63,7 @@ impl PolicyParts {
             rules: &self.rules,
             default_limit: self.default_limit,
             members_via: self.members_via,
+            retry_after: self.retry_after,
         }
     }
 
@@ -245,6 +249,14 @@ fn base_of<R: AllocGlobal + Files<File = File> + KeyFiles>(
     Ok((Some(base?), true))
 }
 
+/// Returns the seconds after which replies say that a request may be sent again, if they do.
+fn retry_after_of(settings: &Settings) -> Option<u64> {
+    match settings.retry_after_seconds {
+        0 => None,
+        seconds => Some(seconds),
+    }
+}
+
 /// Returns the parts of the access policy of a service at an address.
 pub(crate) fn access_configuration_of<R: AllocGlobal + Files<File = File> + KeyFiles + Fenced>(
     rt: &R,
@@ -262,6 +274,7 @@ pub(crate) fn access_configuration_of<R: AllocGlobal + Files<File = File> + KeyF
             rules: rules_of(alloc, &options.said)?,
             members_via: members_via_of(alloc, &options.said)?,
             default_limit: options.settings.default_limit_ms,
+            retry_after: retry_after_of(&options.settings),
             fence: fence_of(rt, &options.said)?,
         },
     })

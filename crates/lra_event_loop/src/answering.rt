@@ -37,6 +37,7 @@ fn may_be_due(answer: Answer, has_body: bool) -> bool
         Answer::Started(_) => has_body,
         Answer::Turned(_) | Answer::Renewed | Answer::Member(_) => true,
         Answer::Found { .. } | Answer::Joined(_) | Answer::Left | Answer::Denied(_) => false,
+        Answer::Retry { .. } => false,
     }
 }
 

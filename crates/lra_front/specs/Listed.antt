@@ -11,7 +11,7 @@ use Rattle.lra_front.specs.declared.answer.Answer.{Answer}
 use Rattle.lra_front.specs.declared.answer.Answer.TheVariants as answer
 use Rattle.lra_front.specs.Operations.{success, refusals}
 use Rattle.lra_front.specs.Routes.{operation_of}
-use Rattle.lra_front.specs.Replies.{api_error_code, code_of}
+use Rattle.lra_front.specs.Replies.{refusal_code, api_error_code, code_of}
 use Rattle.lra_front.specs.Serving.{Responds}
 
 -- a code is among codes
@@ -22,6 +22,7 @@ has_code code codes = list_any (λ x. x == code) codes
 -- success
 abbrev pub is_listed : Operation → Answer → Bool
 is_listed o (answer.Denied d) = has_code (api_error_code d) (refusals o)
+is_listed o (answer.Retry r seconds) = has_code (refusal_code r) (refusals o)
 is_listed o a = has_code (code_of a) (success o)
 
 module _ (gives : Sight → ℕ → Order → Result Told CounterFault → Sight → Type 0) where

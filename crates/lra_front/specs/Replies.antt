@@ -67,6 +67,7 @@ code_of answer.Left = 200
 code_of answer.Renewed = 200
 code_of (answer.Member status) = 200
 code_of (answer.Denied d) = api_error_code d
+code_of (answer.Retry r seconds) = refusal_code r
 
 -- the phrase of a code (RFC 9110, section 15, as `http` has it)
 abbrev pub phrase_of : ℕ → List ℕ
@@ -127,6 +128,7 @@ body_of uri answer.Left = one_text (codes "status") (codes "Left")
 body_of uri answer.Renewed = one_text (codes "status") (codes "Active")
 body_of uri (answer.Member status) = one_text (codes "status") (member_status_name status)
 body_of uri (answer.Denied d) = api_error_body d
+body_of uri (answer.Retry r seconds) = refusal_body r
 
 -- ---- fields
 
@@ -141,11 +143,12 @@ api_error_fields api_error.WrongKey = (codes "WWW-Authenticate", codes "Bearer r
 api_error_fields (api_error.BadMethod resource) = (codes "Allow", allowed resource) ∷ []
 api_error_fields _ = []
 
--- the fields of one answer alone (MicroProfile LRA 2.0, the headers of an LRA; RFC 9110, section 10.2.2)
+-- the fields of one answer alone (MicroProfile LRA 2.0, the headers of an LRA; RFC 9110, sections 10.2.2 and 10.2.3)
 abbrev pub own_fields : List ℕ → Answer → List Field
 own_fields uri (answer.Started action) = (codes "Location", uri) ∷ (codes "Long-Running-Action", uri) ∷ []
 own_fields uri (answer.Joined m) = (codes "Long-Running-Action-Recovery", uri) ∷ []
 own_fields uri (answer.Denied d) = api_error_fields d
+own_fields uri (answer.Retry r seconds) = (codes "Retry-After", decimal seconds) ∷ []
 own_fields uri _ = []
 
 -- the field that says that the stream is closed after the reply (RFC 9112, section 9.6)

@@ -27,7 +27,7 @@ ghost use Rattle.serde_json.specs.View.{view};
 ghost use Rattle.serde_json.specs.Written.{compact_text};
 ghost use Rattle.lra_wire.specs.Writing.{Sends};
 ghost use Rattle.lra_front.specs.Replies as spec;
-ghost use Rattle.lra_front.specs.inner.Seen.{seen, IsPartsOf};
+ghost use Rattle.lra_front.specs.inner.Seen.{seen, wait_of, IsPartsOf};
 
 use crate::api_error::ApiError;
 use http::StatusCode;
@@ -61,14 +61,18 @@ pub enum Answer {
     Member(MemberStatus),
     /// The request was refused, for the reason that the API error gives.
     Denied(ApiError),
+    /// The request was refused, for a reason that goes away by itself: it may be sent again after so many seconds.
+    Retry { refusal: Refusal, seconds: u64 },
 }
 
-/// Parts that a reply is written from: the URI that its answer names, its body, and the body's length in digits.
+/// Parts that a reply is written from: the URI that its answer names, its body, and the body's length and the seconds
+/// that the answer names in digits.
 #[derive(Drop)]
 struct Parts {
     uri: String,
     text: String,
     digits: String,
+    wait: String,
 }
 
 /// Returns the status code for what the coordinator refuses.
@@ -173,6 +177,7 @@ impl Answer {
                 StatusCode::ACCEPTED
             }
             Answer::Denied(api_error) => api_error.status(),
+            Answer::Retry { refusal, .. } => refusal_status(refusal),
             _ => StatusCode::OK,
         }
     }
@@ -186,6 +191,16 @@ impl Answer {
             Answer::Started(action) => base.spell_action(alloc, instance, action),
             Answer::Found { action, .. } => base.spell_action(alloc, instance, action),
             Answer::Joined(member) => base.spell_recovery(alloc, instance, member),
+            _ => Ok(String::new(alloc)),
+        }
+    }
+
+    /// Makes the digits of the seconds that the answer names, or an empty text where it names none.
+    fn wait(self, alloc: Global) -> Result<String, Memory>
+        ensures { IfOk result (λ wait. string_bytes wait ≡ wait_of self) }
+    {
+        match self {
+            Answer::Retry { seconds, .. } => format!(in alloc; "{}", seconds),
             _ => Ok(String::new(alloc)),
         }
     }
@@ -205,6 +220,7 @@ impl Answer {
             Answer::Renewed => one_text(alloc, "status", "Active"),
             Answer::Member(status) => one_text(alloc, "status", status.name()),
             Answer::Denied(api_error) => api_error.body(alloc),
+            Answer::Retry { refusal, .. } => refusal_body(alloc, refusal),
         }
     }
 
@@ -215,9 +231,10 @@ impl Answer {
         self.body(alloc, uri)?.to_string(alloc)
     }
 
-    /// Appends the fields of this answer alone. `uri` is the URI that the answer names.
-    fn add_fields<'a>(self, uri: &'a str, fields: &mut Vec<(&'a str, &'a str)>)
-        requires { vec_len fields.old + 2 ≤ vec_capacity fields.old }
+    /// Appends the fields of this answer alone. `uri` is the URI that the answer names, and `wait` its seconds.
+    fn add_fields<'a>(self, uri: &'a str, wait: &'a str, fields: &mut Vec<(&'a str, &'a str)>)
+        requires room { vec_len fields.old + 2 ≤ vec_capacity fields.old }
+        requires wait { wait.now ≡ wait_of self }
         ensures fields { map seen fields.new.items ≡ map seen fields.old.items ++ spec.own_fields uri.now self }
         ensures room { (vec_len fields.new ≤ vec_len fields.old + 2) ×
             (vec_capacity fields.new ≡ vec_capacity fields.old) }
@@ -234,25 +251,29 @@ impl Answer {
             Answer::Denied(ApiError::WrongKey) => {
                 fields.push_reserved(("WWW-Authenticate", "Bearer realm=\"lra\""));
             }
+            Answer::Retry { .. } => fields.push_reserved(("Retry-After", wait)),
             _ => {}
         }
     }
 
-    /// Makes all fields of the reply. `uri` is the URI that the answer names, and `digits` the length of the body.
+    /// Makes all fields of the reply. `uri` is the URI that the answer names, `wait` its seconds, and `digits` the
+    /// length of the body.
     fn fields<'a>(
         self,
         alloc: Global,
         uri: &'a str,
+        wait: &'a str,
         digits: &'a str,
         close: bool,
     ) -> Result<Vec<(&'a str, &'a str)>, Memory>
+        requires { wait.now ≡ wait_of self }
         ensures { IfOk result (λ fields. (text : List ℕ) → digits.now ≡ decimal (length text)
             → map seen fields.items ≡ spec.fields_of uri.now self text close) }
     {
         let mut fields: Vec<(&'a str, &'a str)> = Vec::with_capacity(alloc, MOST_FIELDS)?;
         fields.push_reserved(("Content-Type", "application/json"));
         fields.push_reserved(("Content-Length", digits));
-        self.add_fields(uri, &mut fields);
+        self.add_fields(uri, wait, &mut fields);
         if close {
             fields.push_reserved(("Connection", "close"));
         }
@@ -267,7 +288,13 @@ impl Answer {
         let uri = self.uri(alloc, instance, base)?;
         let text = self.text(alloc, uri.as_str())?;
         let digits = format!(in alloc; "{}", text.len())?;
-        Ok(Parts { uri, text, digits })
+        let wait = self.wait(alloc)?;
+        Ok(Parts {
+            uri,
+            text,
+            digits,
+            wait,
+        })
     }
 
     /// Writes the reply: without its body where `head` is set, and with `Connection: close` where `close` is set. The
@@ -291,7 +318,9 @@ impl Answer {
         let Ok(parts) = self.parts(alloc, instance, base) else {
             return Err(WireFault::Memory);
         };
-        let Ok(fields) = self.fields(alloc, parts.uri.as_str(), parts.digits.as_str(), close) else {
+        let uri = parts.uri.as_str();
+        let wait = parts.wait.as_str();
+        let Ok(fields) = self.fields(alloc, uri, wait, parts.digits.as_str(), close) else {
             return Err(WireFault::Memory);
         };
         let status = self.status();

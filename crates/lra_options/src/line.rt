@@ -49,6 +49,9 @@ fn help_of(parameter: Parameter) -> &'static str {
         Parameter::Remember => "How long a folder's journal stays once it has ended [3600]",
         Parameter::Site => "The number that a folder's identifiers begin with [0]",
         Parameter::DefaultLimit => "The limit of starts that give none [none]",
+        Parameter::RetryAfter => {
+            "When to send again what is refused with 503 for what passes by itself [not said]"
+        }
     }
 }
 

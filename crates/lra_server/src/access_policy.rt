@@ -37,6 +37,8 @@ pub struct AccessPolicy<'a> {
     pub default_limit: u64,
     /// Address of the proxy by which members are called, if they are.
     pub members_via: Option<SocketAddr>,
+    /// Seconds after which a request may be sent again, in replies to those refused for what goes away by itself.
+    pub retry_after: Option<u64>,
 }
 
 impl<'a> AccessPolicy<'a> {
@@ -51,6 +53,7 @@ impl<'a> AccessPolicy<'a> {
             rules,
             default_limit: 0,
             members_via: None,
+            retry_after: None,
         }
     }
 }
@@ -163,7 +166,7 @@ pub fn receive<'a, R: Wait + Clock + KeyFiles, H: Notifier + EventSink, A: Handl
         refusal_logger.notifier,
         refusal_logger.tallies,
     );
-    Ok(AuthenticationFilter::new(rewrite_filter, key_cache, told))
+    Ok(AuthenticationFilter::new(rewrite_filter, key_cache, told, access_policy.retry_after))
 }
 
 /// Takes a handler out of the filters of an access policy.

@@ -21,7 +21,7 @@ pub fn put_olders<W: Write>(
     put_texts(alloc, "also-base", &texts, writer)
 }
 
-/// Writes a line for each setting, but none for a default limit that isn't set.
+/// Writes a line for each setting, but none for a default limit or a time to send again that isn't set.
 pub fn put_settings<W: Write>(
     alloc: Global,
     settings: &Settings,

@@ -21,6 +21,7 @@ nothing = record {
   remember_seconds = None;
   site = None;
   default_limit_ms = None;
+  retry_after_seconds = None;
   stop_at_eof = None;
 }
 
@@ -42,5 +43,6 @@ applied g s = record {
   remember_seconds = unwrap_or g.remember_seconds s.remember_seconds;
   site = unwrap_or g.site s.site;
   default_limit_ms = unwrap_or g.default_limit_ms s.default_limit_ms;
+  retry_after_seconds = unwrap_or g.retry_after_seconds s.retry_after_seconds;
   stop_at_eof = unwrap_or g.stop_at_eof s.stop_at_eof;
 }

@@ -5,7 +5,7 @@ use Rattle.lra_settings.specs.declared.parameter.Parameter.TheVariants.{Connecti
 use Rattle.lra_settings.specs.declared.parameter.Parameter.TheVariants.{RequestTimeout, ReplyTimeout, ConnectTimeout}
 use Rattle.lra_settings.specs.declared.parameter.Parameter.TheVariants.{CallbackTimeout, SyncSeconds, RetryFirst}
 use Rattle.lra_settings.specs.declared.parameter.Parameter.TheVariants.{RetryLast, RollAfter, Remember, Site}
-use Rattle.lra_settings.specs.declared.parameter.Parameter.TheVariants.{DefaultLimit}
+use Rattle.lra_settings.specs.declared.parameter.Parameter.TheVariants.{DefaultLimit, RetryAfter}
 
 -- the name of a parameter on a command line and in a file (this project's choice)
 abbrev pub name_of : Parameter → List ℕ
@@ -24,6 +24,7 @@ name_of RollAfter = codes "roll-after"
 name_of Remember = codes "remember"
 name_of Site = codes "site"
 name_of DefaultLimit = codes "default-limit"
+name_of RetryAfter = codes "retry-after"
 
 -- the least value of a parameter: only the site's number may be 0 (this project's choice)
 abbrev pub least_of : Parameter → ℕ
@@ -42,9 +43,11 @@ least_of RollAfter = 1
 least_of Remember = 1
 least_of Site = 0
 least_of DefaultLimit = 1
+least_of RetryAfter = 1
 
 -- the largest value of a parameter: a plain number, a day in seconds, a day in milliseconds, a year in seconds, what 16
--- bits hold, or 2^53, up to which all programs read numbers of JSON alike (RFC 8259, section 6; this project's choice)
+-- bits hold, 2^53, up to which all programs read numbers of JSON alike (RFC 8259, section 6), or an hour in seconds
+-- (this project's choice)
 abbrev pub most_of : Parameter → ℕ
 most_of Connections = 1000000
 most_of Callbacks = 65536
@@ -61,6 +64,7 @@ most_of RollAfter = 50000
 most_of Remember = 31536000
 most_of Site = 65535
 most_of DefaultLimit = 9007199254740992
+most_of RetryAfter = 3600
 
 -- the parameter may have the value
 abbrev pub fits : Parameter → ℕ → Bool

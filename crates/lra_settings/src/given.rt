@@ -25,6 +25,7 @@ pub struct Given {
     pub remember_seconds: Option<u64>,
     pub site: Option<u64>,
     pub default_limit_ms: Option<u64>,
+    pub retry_after_seconds: Option<u64>,
     pub stop_at_eof: Option<bool>,
 }
 
@@ -49,6 +50,7 @@ impl Given {
             remember_seconds: None,
             site: None,
             default_limit_ms: None,
+            retry_after_seconds: None,
             stop_at_eof: None,
         }
     }
@@ -71,6 +73,7 @@ impl Given {
             Parameter::Remember => &mut self.remember_seconds,
             Parameter::Site => &mut self.site,
             Parameter::DefaultLimit => &mut self.default_limit_ms,
+            Parameter::RetryAfter => &mut self.retry_after_seconds,
         };
         *place = Some(value);
     }
@@ -95,6 +98,9 @@ impl Given {
             remember_seconds: self.remember_seconds.unwrap_or(settings.remember_seconds),
             site: self.site.unwrap_or(settings.site),
             default_limit_ms: self.default_limit_ms.unwrap_or(settings.default_limit_ms),
+            retry_after_seconds: self
+                .retry_after_seconds
+                .unwrap_or(settings.retry_after_seconds),
             stop_at_eof: self.stop_at_eof.unwrap_or(settings.stop_at_eof),
         }
     }

@@ -21,11 +21,12 @@ pub enum Parameter {
     Remember,
     Site,
     DefaultLimit,
+    RetryAfter,
 }
 
 impl Parameter {
     /// All parameters.
-    pub const ALL: [Parameter; 15] = [
+    pub const ALL: [Parameter; 16] = [
         Parameter::Connections,
         Parameter::Callbacks,
         Parameter::HostShare,
@@ -41,6 +42,7 @@ impl Parameter {
         Parameter::Remember,
         Parameter::Site,
         Parameter::DefaultLimit,
+        Parameter::RetryAfter,
     ];
 
     /// Returns the parameter's name on a command line and in a file.
@@ -63,6 +65,7 @@ impl Parameter {
             Parameter::Remember => "remember",
             Parameter::Site => "site",
             Parameter::DefaultLimit => "default-limit",
+            Parameter::RetryAfter => "retry-after",
         }
     }
 
@@ -108,6 +111,7 @@ impl Parameter {
             Parameter::Remember => 31_536_000,
             Parameter::Site => 65_535,
             Parameter::DefaultLimit => 9_007_199_254_740_992,
+            Parameter::RetryAfter => 3_600,
         }
     }
 

@@ -1,12 +1,12 @@
 //! All settings.
 
 ghost use Rattle.std.specs.Prelude.{◌≡◌};
-ghost use Rattle.lra_settings.specs.Settings.{usual, value_of, is_limit_fit, are_in_range, are_fit};
+ghost use Rattle.lra_settings.specs.Settings.{usual, value_of, is_limit_fit, is_retry_fit, are_in_range, are_fit};
 
 use crate::parameter::Parameter;
 
-/// The settings of a service: how much it handles at once, its time-outs, when a folder's journals are rotated, and the
-/// default limit of starts.
+/// The settings of a service: how much it handles at once, its time-outs, when a folder's journals are rotated, the
+/// default limit of starts, and when refused requests may be sent again.
 #[derive(Clone, Copy, PartialEq, Eq)]
 pub struct Settings {
     /// The number of connections at once.
@@ -39,6 +39,9 @@ pub struct Settings {
     pub site: u64,
     /// The milliseconds of the limit of a start that gives none. 0 is no limit.
     pub default_limit_ms: u64,
+    /// The seconds after which a request may be sent again, in replies to those refused for what goes away by itself.
+    /// With 0 no reply says it.
+    pub retry_after_seconds: u64,
     /// The mark that the service ends gently once standard input has ended.
     pub stop_at_eof: bool,
 }
@@ -64,6 +67,7 @@ impl Settings {
             remember_seconds: 3_600,
             site: 0,
             default_limit_ms: 0,
+            retry_after_seconds: 0,
             stop_at_eof: false,
         }
     }
@@ -88,6 +92,7 @@ impl Settings {
             Parameter::Remember => self.remember_seconds,
             Parameter::Site => self.site,
             Parameter::DefaultLimit => self.default_limit_ms,
+            Parameter::RetryAfter => self.retry_after_seconds,
         }
     }
 
@@ -96,6 +101,13 @@ impl Settings {
         ensures { result ≡ is_limit_fit self.now }
     {
         self.default_limit_ms == 0 || Parameter::DefaultLimit.fits(self.default_limit_ms)
+    }
+
+    /// Returns whether no reply says when to send again, or the seconds are in their range.
+    fn is_retry_fit(&self) -> bool
+        ensures { result ≡ is_retry_fit self.now }
+    {
+        self.retry_after_seconds == 0 || Parameter::RetryAfter.fits(self.retry_after_seconds)
     }
 
     /// Returns whether each parameter's value is in its range.
@@ -117,6 +129,7 @@ impl Settings {
             && Parameter::Remember.fits(self.remember_seconds)
             && Parameter::Site.fits(self.site)
             && self.is_limit_fit()
+            && self.is_retry_fit()
     }
 
     /// Returns whether a service can run with these settings: each parameter's value is in its range, and the first

@@ -3,8 +3,9 @@
 ghost use Rattle.std.specs.Prelude.{◌≡◌};
 ghost use Rattle.lra_front.specs.Replies.{HasIdentifiers};
 ghost use Rattle.lra_steps.specs.Positions.{denied};
+ghost use Rattle.lra_steps.specs.Retries as spec;
 
-use lra_commands::{Counter, Session};
+use lra_commands::{Counter, Refusal, Session};
 use lra_front::{Answer, ApiError, RoutedRequest};
 use lra_ids::{Base, Instance};
 use std::alloc::Global;
@@ -21,6 +22,45 @@ pub struct Answered {
     pub position: Option<u64>,
 }
 
+/// Returns whether a refusal goes away by itself. `is_asked` says that a coordinator was asked.
+fn is_passing(is_asked: bool, refusal: Refusal) -> bool
+    ensures { result ≡ spec.is_passing is_asked refusal }
+{
+    match refusal {
+        Refusal::Memory => true,
+        Refusal::Stopped => !is_asked,
+        _ => false,
+    }
+}
+
+/// Returns the refusal that an answer tells of, if it tells of one.
+fn refusal_of(answer: Answer) -> Option<Refusal>
+    ensures { result ≡ spec.refusal_of answer }
+{
+    match answer {
+        Answer::Denied(ApiError::Refused(refusal)) => Some(refusal),
+        _ => None,
+    }
+}
+
+/// Returns a refused request's answer, with the seconds if the refusal goes away by itself.
+fn answer_to(seconds: u64, is_asked: bool, answer: Answer, refusal: Option<Refusal>) -> Answer
+    requires { HasIdentifiers answer }
+    ensures answer { result ≡ spec.answer_to seconds is_asked answer refusal }
+    ensures identifiers { HasIdentifiers result }
+{
+    match refusal {
+        Some(refusal) => {
+            if is_passing(is_asked, refusal) {
+                Answer::Retry { refusal, seconds }
+            } else {
+                answer
+            }
+        }
+        None => answer,
+    }
+}
+
 impl Answered {
     /// Returns an API error for which no coordinator was asked.
     pub fn denied(instance: Instance, api_error: ApiError) -> Answered
@@ -30,6 +70,27 @@ impl Answered {
             instance,
             answer: Answer::Denied(api_error),
             position: None,
+        }
+    }
+
+    /// Returns the answer as it leaves: if it is a refusal that goes away by itself, with the seconds after which its
+    /// request may be sent again, if there are any.
+    pub fn with_retry(self, seconds: Option<u64>) -> Answered
+        requires { HasIdentifiers self.answer }
+        ensures answered { result ≡ spec.with_retry seconds self }
+        ensures identifiers { HasIdentifiers result.answer }
+    {
+        match seconds {
+            Some(seconds) => {
+                let is_asked = self.position.is_some();
+                let refusal = refusal_of(self.answer);
+                Answered {
+                    instance: self.instance,
+                    answer: answer_to(seconds, is_asked, self.answer, refusal),
+                    position: self.position,
+                }
+            }
+            None => self,
         }
     }
 }
