@@ -9,6 +9,7 @@ import re
 import resource
 import shutil
 import socket
+import statistics
 import subprocess
 import sys
 import threading
@@ -1095,11 +1096,12 @@ def test_a_port_that_cannot_be_had_is_told(setting):
 def test_those_who_are_slow_hold_nobody_up(setting):
     with Watched(setting) as service:
         silent = [service.visitor() for _ in range(100)]
-        begun = time.monotonic()
+        looks = []
         for _ in range(20):
+            begun = time.monotonic()
             check("it is ready", service.is_ready())
-        looked = time.monotonic() - begun
-        check(f"twenty looks beside silent ones took {looked:.1f} s", looked < LATE)
+            looks.append(time.monotonic() - begun)
+        check(f"looks beside silent ones take {looks} s", statistics.median(looks) < 1 and max(looks) < LATE)
         slow = service.visitor()
         text = f"GET /health HTTP/1.1\r\nHost: h\r\nAuthorization: Bearer {KEY}\r\n\r\n".encode()
         for byte in text[:3]:
@@ -1115,7 +1117,7 @@ def test_those_who_are_slow_hold_nobody_up(setting):
         took = time.monotonic() - begun
         check(f"it took {took:.1f} s, wanted 10", 9 < took < 10 + LATE)
         crowds.close_all([*silent, slow, late])
-    return f"twenty looks beside a hundred silent visitors in {looked:.2f} s"
+    return f"twenty looks beside a hundred silent visitors in {sum(looks):.2f} s"
 
 
 def test_a_request_that_is_too_long_is_refused(setting):

@@ -25,6 +25,8 @@ START = 120
 # How many seconds late an answer or an end may be on a busy machine, or where its disk takes its time: fewer than the
 # ten that a client has for a message, and that a gentle end lasts at most.
 LATE = 8
+# How many seconds a connection may be idle before a request: a service closes one after thirty.
+IDLE = 25
 # For how many seconds a service rests that has ended what it has begun by itself, how often it is looked at, and how
 # many seconds are enough for that.
 CALM, LOOKS, ENOUGH = 0.5, 10, 15
@@ -152,6 +154,7 @@ class Client:
     def __init__(self, port, keep=True):
         self.connection = http.client.HTTPConnection(HOST, port, timeout=PATIENCE)
         self.keep = keep
+        self.used = time.monotonic()
 
     def __enter__(self):
         return self
@@ -164,8 +167,12 @@ class Client:
         return self.send(method, path, json.dumps(keys) if keys else None)
 
     def send(self, method, path, body):
-        """A request with this body, and its reply."""
+        """A request with this body, and its reply. A connection that has been idle for long, since something else took
+        its time, may just be ending: it is replaced."""
         fields = {} if self.keep else {"Connection": "close"}
+        if time.monotonic() - self.used > IDLE:
+            self.connection.close()
+        self.used = time.monotonic()
         self.connection.request(method, path, body, fields)
         reply = self.connection.getresponse()
         text = reply.read()
