@@ -8,6 +8,7 @@ import re
 import sys
 import threading
 import time
+import traceback
 
 import allocations
 import failing
@@ -279,7 +280,15 @@ def each_at_once(one, keys):
     for fault in faults.values():
         if isinstance(fault, LeftOut):
             raise fault
-    return results, {key: str(fault) or repr(fault) for key, fault in sorted(faults.items())}
+    return results, {key: told_of(fault) for key, fault in sorted(faults.items())}
+
+
+def told_of(fault):
+    """What a fault says, and where it was raised unless a check did so."""
+    if isinstance(fault, AssertionError):
+        return str(fault)
+    *_, last = traceback.extract_tb(fault.__traceback__)
+    return f"{fault!r} in line {last.lineno} of {os.path.basename(last.filename)}"
 
 
 def try_each(setting, workers, numbers, way=failing):
