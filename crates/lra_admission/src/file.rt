@@ -1,4 +1,4 @@
-//! The file of the keys.
+//! The file of the keys, and others that are read as it is.
 
 ghost use Rattle.std.specs.Prelude.{IfOk, IfErr, IfSome};
 ghost use Rattle.lra_admission.specs.inner.Files as spec;
@@ -35,6 +35,9 @@ pub trait KeyFiles {
 
     /// Reads the keys of a file, which nobody but its owner may read or write.
     fn read_keys(&self, alloc: Global, path: &str) -> Result<Keys, KeysFault>;
+
+    /// Reads the text of a file of so many bytes at most, which nobody but its owner may read or write.
+    fn read_secret(&self, alloc: Global, path: &str, longest: u32) -> Result<Vec<u8>, KeysFault>;
 }
 
 impl<R: Files<File = File>> KeyFiles for R {
@@ -52,14 +55,46 @@ impl<R: Files<File = File>> KeyFiles for R {
     }
 
     fn read_keys(&self, alloc: Global, path: &str) -> Result<Keys, KeysFault> {
-        let Ok(file) = File::open(self, path) else {
-            return Err(KeysFault::File);
-        };
-        if is_shared(&file) {
-            drop(file);
-            return Err(KeysFault::Shared);
+        match open_own(self, path) {
+            Ok(file) => keys_from(alloc, file),
+            Err(fault) => Err(fault),
         }
-        keys_from(alloc, file)
+    }
+
+    fn read_secret(&self, alloc: Global, path: &str, longest: u32) -> Result<Vec<u8>, KeysFault> {
+        match open_own(self, path) {
+            Ok(file) => secret_from(alloc, file, longest),
+            Err(fault) => Err(fault),
+        }
+    }
+}
+
+/// Opens a file that nobody but its owner may read or write.
+fn open_own<R: Files<File = File>>(rt: &R, path: &str) -> Result<File, KeysFault> {
+    let Ok(file) = File::open(rt, path) else {
+        return Err(KeysFault::File);
+    };
+    if is_shared(&file) {
+        drop(file);
+        return Err(KeysFault::Shared);
+    }
+    Ok(file)
+}
+
+/// Returns why a small file isn't read.
+fn unread(fault: SmallFault) -> KeysFault {
+    match fault {
+        SmallFault::TooLong => KeysFault::TooLong,
+        SmallFault::Memory => KeysFault::Memory,
+        SmallFault::File => KeysFault::File,
+    }
+}
+
+/// Reads the text of a file of so many bytes at most to its end.
+fn secret_from<F: Read + Drop>(alloc: Global, file: F, longest: u32) -> Result<Vec<u8>, KeysFault> {
+    match read_whole(alloc, file, longest) {
+        Ok(text) => Ok(text),
+        Err(fault) => Err(unread(fault)),
     }
 }
 

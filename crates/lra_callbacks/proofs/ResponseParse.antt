@@ -3,6 +3,7 @@ use Rattle.std.proofs.Common.{◌≡◌, ℕ, Bool, true, List, Option, Some, No
 use Rattle.std.specs.Prelude.{Result, option_map, unwrap_or, IfSome, IsTrue}
 use Rattle.std.specs.Option.{ForSome}
 use Rattle.std.specs.Result.{result_unwrap_or}
+use Rattle.std.proofs.Math.Logic.{∥∥₁_map}
 use Rattle.lra_model.specs.declared.asks.AskKind.{AskKind}
 use Rattle.lra_model.specs.declared.asks.Outcome.{Outcome}
 use Rattle.lra_model.specs.declared.asks.Outcome.TheVariants.{Silent}
@@ -12,7 +13,7 @@ use Rattle.lra_courier.specs.CallbackPools.{Handed, Gains}
 use Rattle.lra_courier.specs.declared.fault.CallFault.{CallFault}
 use Rattle.lra_courier.specs.Carried.{Carried, IsCarried}
 use Rattle.lra_durable.specs.Leaves.{MayLeave}
-use Rattle.lra_callbacks.specs.Outcomes.{IsFor, MayCome, OfGroup, MayComeOf}
+use Rattle.lra_callbacks.specs.Outcomes.{IsFor, Comes, MayCome, OfGroup, MayComeOf}
 use Rattle.lra_callbacks.specs.Held.{errand_at}
 use Rattle.lra_callbacks.specs.inner.Attempts.{IsOfSame}
 
@@ -24,7 +25,8 @@ module _ (keeps : ℕ → Bool) where
 
   -- the outcome of a callback that might be sent may come of its errand
   pub outcome_comes : (kept : ℕ) (c : Carried) (errand : Option Handed) (r : Option Outcome)
-      → ForSome errand (λ h. MayLeave keeps h.1 kept) → ForSome errand (λ h. IsFor c h.0) → IsCarried c
+      → ForSome errand (λ h. MayLeave keeps h.1 kept) → ForSome errand (λ h. ∥ IsFor c h.0 ∥₁)
+      → IsCarried c
       → r ≡ option_map (λ (told : Result Outcome CallFault). result_unwrap_or told Silent) c.came
       → IfSome r (λ o. IsTrue (outcome_suits c.kind o))
       → IfSome errand (λ h. MayCome keeps h.1 h.0.ask h.0.kind (unwrap_or r Silent))
@@ -32,31 +34,31 @@ module _ (keeps : ℕ → Bool) where
   outcome_comes kept c (Some e) None leave own steps is suits = inr refl
   outcome_comes kept c (Some e) (Some o) leave own steps is suits = by_told c.came refl
     where
-      of : IsFor c e.0
-      of = own e refl
-
       by_told : (came : Option (Result Outcome CallFault)) → c.came ≡ came → MayCome keeps e.1 e.0.ask e.0.kind o
       by_told None g = none (is ∙ ap (option_map (λ (told : Result Outcome CallFault). result_unwrap_or told Silent)) g)
         where
           none : Some o ≡ None → MayCome keeps e.1 e.0.ask e.0.kind o
           none h = absurd cc
-      by_told (Some told) g = inl record {
-        kept = kept;
-        leave = leave e refl;
-        errand = e.0;
-        of_ask = refl;
-        of_kind = refl;
-        carried = c;
-        steps = steps;
-        own = of;
-        told = told;
-        came = g;
-        as_told = same (is ∙ ap (option_map (λ (told : Result Outcome CallFault). result_unwrap_or told Silent)) g);
-        suits = subst (λ (kind : AskKind). outcome_suits kind o ≡ true) of.kind suits;
-      }
+      by_told (Some told) g = inl (∥∥₁_map (own e refl) comes)
         where
           same : Some o ≡ Some (result_unwrap_or told Silent) → o ≡ result_unwrap_or told Silent
           same h = cc
+
+          comes : IsFor c e.0 → Comes keeps e.1 e.0.ask e.0.kind o
+          comes of = record {
+            kept = kept;
+            leave = leave e refl;
+            errand = e.0;
+            of_ask = refl;
+            of_kind = refl;
+            carried = c;
+            steps = steps;
+            own = of;
+            told = told;
+            came = g;
+            as_told = same (is ∙ ap (option_map (λ (told : Result Outcome CallFault). result_unwrap_or told Silent)) g);
+            suits = subst (λ (kind : AskKind). outcome_suits kind o ≡ true) of.own.kind suits;
+          }
 
 -- an outcome that comes of an errand's own journal comes of some journal
 pub own_comes : (keeps : ℕ → ℕ → Bool) (instance : ℕ) (r : Option (Asking × Outcome)) (errand : Option Handed)
@@ -90,10 +92,16 @@ same_on a b c h k = record {
       ∙ h.request;
 }
 
-pub same_for : (old new : Carried) (errand : Option Handed) → IsOfSame old new → ForSome errand (λ h. IsFor old h.0)
-    → ForSome errand (λ h. IsFor new h.0)
-same_for old new errand same own e is = record {
-  kind = same.kind ∙ (own e is).kind;
-  direction = same.direction ∙ (own e is).direction;
-  request = same.request ∙ (own e is).request;
+still_for : (old new : Carried) (errand : Asking) → IsOfSame old new → IsFor old errand → IsFor new errand
+still_for old new errand same of = record {
+  extra = of.extra;
+  own = record {
+    kind = same.kind ∙ of.own.kind;
+    direction = same.direction ∙ of.own.direction;
+    request = same.request ∙ of.own.request;
+  };
 }
+
+pub same_for : (old new : Carried) (errand : Option Handed) → IsOfSame old new
+    → ForSome errand (λ h. ∥ IsFor old h.0 ∥₁) → ForSome errand (λ h. ∥ IsFor new h.0 ∥₁)
+same_for old new errand same own e is = ∥∥₁_map (own e is) (still_for old new e.0 same)

@@ -2,6 +2,8 @@
 use Rattle.std.specs.Prelude.{◌≡◌, ◌⊎◌, ℕ, Bool, true, Some, Result, refl}
 use Rattle.std.specs.Result.{result_unwrap_or}
 use Rattle.std.proofs.Common.{ap, inl, inr}
+use Rattle.std.proofs.Math.Logic.{∥∥₁_elim}
+use mathlib.Core.Bool.{Bool-set}
 use Rattle.lra_model.specs.declared.asks.AskKind.{AskKind}
 use Rattle.lra_model.specs.declared.asks.AskKind.TheVariants as ask
 use Rattle.lra_model.specs.declared.asks.Outcome.{Outcome}
@@ -9,15 +11,20 @@ use Rattle.lra_model.specs.declared.asks.Outcome.TheVariants.{Silent}
 use Rattle.lra_model.specs.Words.{outcome_suits}
 use Rattle.lra_commands.specs.Errands.{Asking}
 use Rattle.lra_courier.specs.declared.fault.CallFault.{CallFault}
-use Rattle.lra_courier.specs.Callbacks.{calling_of, request_bytes}
+use Rattle.lra_courier.specs.Callbacks.{Extra, calling_of, calling_with, request_bytes}
 use Rattle.lra_courier.specs.Carried.{Carried, IsCarried}
 use Rattle.lra_durable.specs.Leaves.{MayLeave}
 
--- the callback exchange is that of an errand
-pub record IsFor (carried : Carried) (errand : Asking) : Type 0 where
+-- the callback exchange is that of an errand, with these extra fields
+pub record IsForWith (extra : Extra) (carried : Carried) (errand : Asking) : Type 0 where
   pub kind : carried.kind ≡ errand.kind
   pub direction : carried.direction ≡ errand.direction
-  pub request : carried.request ≡ request_bytes (calling_of errand)
+  pub request : carried.request ≡ request_bytes (calling_with extra (calling_of errand))
+
+-- the callback exchange is that of an errand, with some extra fields
+pub record IsFor (carried : Carried) (errand : Asking) : Type 0 where
+  pub extra : Extra
+  pub own : IsForWith extra carried errand
 
 -- An outcome came of a callback for an ask of this number and kind: the request was sent once the journal was durable
 -- up to the errand's position, and this is the callback's outcome.
@@ -37,7 +44,7 @@ pub record Comes (keeps : ℕ → Bool) (position ask : ℕ) (kind : AskKind) (o
 
 -- an outcome came of such a callback, or it is silence
 abbrev pub MayCome : (ℕ → Bool) → ℕ → ℕ → AskKind → Outcome → Type 0
-MayCome keeps position ask kind outcome = Comes keeps position ask kind outcome ⊎ (outcome ≡ Silent)
+MayCome keeps position ask kind outcome = ∥ Comes keeps position ask kind outcome ∥₁ ⊎ (outcome ≡ Silent)
 
 -- the same for some journal of a group
 pub record OfGroup (keeps : ℕ → ℕ → Bool) (position ask : ℕ) (kind : AskKind) (outcome : Outcome) : Type 0 where
@@ -60,7 +67,7 @@ silence_suits ask.After outcome e = ap (λ (o : Outcome). outcome_suits ask.Afte
 -- an outcome that may come suits the kind of its ask
 coming_suits : (keeps : ℕ → Bool) (position ask : ℕ) (kind : AskKind) (outcome : Outcome)
     → MayCome keeps position ask kind outcome → outcome_suits kind outcome ≡ true
-coming_suits keeps position ask kind outcome (inl came) = came.suits
+coming_suits keeps position ask kind outcome (inl came) = ∥∥₁_elim came (Bool-set _ _) (λ comes. comes.suits)
 coming_suits keeps position ask kind outcome (inr silent) = silence_suits kind outcome silent
 
 -- an outcome that may come of an ask suits its kind, whatever its journal and position are

@@ -3,16 +3,17 @@
 ghost use Rattle.std.specs.Global.{Global};
 ghost use Rattle.std.specs.Prelude.{◌≡◌, Some, None, IfOk, IfSome, String, option_map, string_bytes};
 ghost use Rattle.std.specs.Option.{ForSome};
+ghost use Rattle.lra_courier.specs.Callbacks.{extra_of};
 ghost use Rattle.lra_courier.specs.Sockets.{socket_text};
 ghost use Rattle.lra_durable.specs.Leaves.{MayLeave};
-ghost use Rattle.lra_callbacks.specs.Outcomes.{IsFor, MayCome};
+ghost use Rattle.lra_callbacks.specs.Outcomes.{IsFor, IsForWith, MayCome};
 ghost use Rattle.lra_callbacks.specs.inner.Attempts.{outcome_of, Goes};
 ghost use Rattle.lra_callbacks.specs.inner.Ends.{Replies};
 
 use crate::pumping::{Moved, pump};
 use crate::replies::{End, reply_of};
 use lra_core::Errand;
-use lra_courier::{Callback, CallbackExchange, socket_text};
+use lra_courier::{Callback, CallbackExchange, ExtraFields, socket_text};
 use lra_durable::SyncGroup;
 use lra_model::{Instance, Memory, Outcome};
 use lra_outcomes::Reply;
@@ -101,12 +102,16 @@ pub(crate) struct Flight {
     kept: u64,
 }
 
-/// Returns the callback of an errand, and the host and port that it asks. Returns `None` if the errand has no address
-/// or memory is refused.
-fn callback_of(alloc: Global, errand: &Errand) -> Option<(CallbackExchange, String)>
-    ensures { IfSome result (λ made. Goes made.0 made.1 errand.now) }
+/// Returns the callback of an errand with extra fields, and the host and port that it asks. Returns `None` if the
+/// errand has no address or memory is refused.
+fn callback_of(
+    alloc: Global,
+    errand: &Errand,
+    extra: ExtraFields<'_>,
+) -> Option<(CallbackExchange, String)>
+    ensures { IfSome result (λ made. Goes (extra_of extra.entry) made.0 made.1 errand.now) }
 {
-    let callback = Callback::of(errand);
+    let callback = Callback::of_with(errand, extra);
     let Ok(to) = callback.to(alloc) else {
         return None;
     };
@@ -128,7 +133,7 @@ pub(crate) struct Attempt<G: SyncGroup> {
     flight: Option<Flight>,
     group: PhantomData<G>,
     ghost leave: { ForSome flight (λ f. ForSome errand (λ h. MayLeave (G.keeps instance) h.1 f.kept)) },
-    ghost own: { ForSome flight (λ f. ForSome errand (λ h. IsFor f.callback_exchange h.0)) },
+    ghost own: { ForSome flight (λ f. ForSome errand (λ h. ∥ IsFor f.callback_exchange h.0 ∥₁)) },
 }
 
 impl<G: SyncGroup> Attempt<G> {
@@ -159,24 +164,33 @@ impl<G: SyncGroup> Attempt<G> {
         self.errand.position()
     }
 
-    /// Returns the callback of the errand, and the host and port that it asks. Returns `None` if the errand has no
-    /// address or memory is refused.
-    fn callback(&self, alloc: Global) -> Option<(CallbackExchange, String)>
-        ensures { IfSome result (λ made. ForSome self.now.errand (λ h. Goes made.0 made.1 h.0)) }
+    /// Returns the callback of the errand with extra fields, and the host and port that it asks. Returns `None` if the
+    /// errand has no address or memory is refused.
+    fn callback(&self, alloc: Global, extra: ExtraFields<'_>) -> Option<(CallbackExchange, String)>
+        ensures { IfSome result (λ made. ForSome self.now.errand
+            (λ h. Goes (extra_of extra.entry) made.0 made.1 h.0)) }
     {
         match self.errand() {
-            Some(errand) => callback_of(alloc, errand),
+            Some(errand) => callback_of(alloc, errand, extra),
             None => None,
         }
     }
 
-    /// Makes the callback if it may be sent. Returns whether it may, and if so, the host and port of the errand's
-    /// address.
-    pub(crate) fn begin<R: Wait>(&mut self, rt: &R, alloc: Global, group: &G) -> Leave
+    /// Makes the callback, with extra fields, if it may be sent. Returns whether it may, and if so, the host and port
+    /// of the errand's address.
+    pub(crate) fn begin<R: Wait>(
+        &mut self,
+        rt: &R,
+        alloc: Global,
+        group: &G,
+        extra: ExtraFields<'_>,
+    ) -> Leave
         ensures errand { self.new.errand ≡ self.old.errand }
         ensures journal { self.new.instance ≡ self.old.instance }
         ensures socket { (socket : String Global) → result ≡ Leave.Now socket
             → ForSome self.old.errand (λ h. string_bytes socket ≡ socket_text h.0.address) }
+        ensures extra { (socket : String Global) → result ≡ Leave.Now socket → ForSome self.new.flight
+            (λ f. ForSome self.old.errand (λ h. IsForWith (extra_of extra.entry) f.callback_exchange h.0)) }
     {
         let Ok(kept) = group.kept(rt, self.instance, self.position()) else {
             return Leave::Never;
@@ -184,7 +198,7 @@ impl<G: SyncGroup> Attempt<G> {
         let Some(kept) = kept else {
             return Leave::Later;
         };
-        match self.callback(alloc) {
+        match self.callback(alloc, extra) {
             Some((callback_exchange, socket)) => {
                 self.flight = Some(Flight {
                     callback_exchange,

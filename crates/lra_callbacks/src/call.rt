@@ -4,8 +4,9 @@ ghost use Rattle.std.specs.Global.{Global};
 ghost use Rattle.std.specs.Prelude.{◌≡◌, Some, IfOk, IfSome, OnOk, IsTrue, String, option_map, string_bytes};
 ghost use Rattle.std.specs.Option.{ForSome};
 ghost use Rattle.lra_callbacks.specs.inner.Targets.{is_let};
+ghost use Rattle.lra_courier.specs.Callbacks.{extra_of};
 ghost use Rattle.lra_courier.specs.Sockets.{socket_text};
-ghost use Rattle.lra_callbacks.specs.Outcomes.{MayCome};
+ghost use Rattle.lra_callbacks.specs.Outcomes.{IsForWith, MayCome};
 ghost use Rattle.lra_callbacks.specs.inner.Attempts.{outcome_of};
 ghost use Rattle.lra_callbacks.specs.inner.Ends.{Replies, has_no_socket, limit_of};
 
@@ -15,6 +16,7 @@ use crate::pumping::Moved;
 use crate::replies::{End, end_of};
 use crate::worker_quota::TimeOuts;
 use lra_core::Errand;
+use lra_courier::ExtraFields;
 use lra_durable::SyncGroup;
 use lra_model::{Instance, Memory, Outcome};
 use lra_outcomes::Reply;
@@ -74,14 +76,22 @@ impl<G: SyncGroup> Call<G> {
         }
     }
 
-    /// Makes the callback if it may be sent. Returns whether it may, and if so, the host and port of the errand's
-    /// address.
-    pub(crate) fn begin<R: Wait>(&mut self, rt: &R, alloc: Global, group: &G) -> Leave
+    /// Makes the callback, with extra fields, if it may be sent. Returns whether it may, and if so, the host and port
+    /// of the errand's address.
+    pub(crate) fn begin<R: Wait>(
+        &mut self,
+        rt: &R,
+        alloc: Global,
+        group: &G,
+        extra: ExtraFields<'_>,
+    ) -> Leave
         ensures errand { self.new.attempt.errand ≡ self.old.attempt.errand }
         ensures socket { (socket : String Global) → result ≡ Leave.Now socket
             → ForSome self.old.attempt.errand (λ h. string_bytes socket ≡ socket_text h.0.address) }
+        ensures extra { (socket : String Global) → result ≡ Leave.Now socket → ForSome self.new.attempt.flight
+            (λ f. ForSome self.old.attempt.errand (λ h. IsForWith (extra_of extra.entry) f.callback_exchange h.0)) }
     {
-        self.attempt.begin(rt, alloc, group)
+        self.attempt.begin(rt, alloc, group, extra)
     }
 
     /// Returns the errand.

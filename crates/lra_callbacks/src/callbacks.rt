@@ -11,6 +11,7 @@ use crate::hosts::Next;
 use crate::names::SharedDnsCache;
 use crate::quota::Quota;
 use crate::resting::{SHORT_REST_MS, rest_before, rest_for};
+use crate::shared_token::{SharedToken, TokenCache};
 use crate::socket_set::{SocketSet, wake_workers};
 use crate::sparing::Sparing;
 use crate::worker_quota::WorkerQuota;
@@ -57,6 +58,8 @@ pub struct Callbacks<'a, R, G: SyncGroup> {
     calls: Slab<Call<G>>,
     socket_set: SocketSet,
     sparing: Sparing<'a>,
+    /// Token that callbacks give to members, if there is one.
+    token_cache: TokenCache<'a>,
     /// Moment at which it polled its office last.
     looked: u64,
     /// The office's clock.
@@ -136,7 +139,8 @@ impl<'a, R: Wait + Net + time::Clock, G: SyncGroup> Callbacks<'a, R, G> {
     /// 0 means no back-off, and `u64::MAX` never ends. Others may change the pause at any time; silences while it was 0
     /// aren't known. The clock is the one by which the office's moments are given. If it has ten seconds or less until
     /// the greatest moment, the pause is ten seconds at least. The outcome of each member's last callback is noted in
-    /// `outcomes`, unless the callback brought the member further.
+    /// `outcomes`, unless the callback brought the member further. A callback gives its member the token that is in
+    /// force when it begins, if there is one.
     pub fn new(
         rt: &'a R,
         alloc: Global,
@@ -153,6 +157,7 @@ impl<'a, R: Wait + Net + time::Clock, G: SyncGroup> Callbacks<'a, R, G> {
         wakers: &'a Arc<Vec<Waker>>,
         place: usize,
         outcomes: &'a Outcomes,
+        token: Option<&'a SharedToken>,
     ) -> Result<Callbacks<'a, R, G>, Poll>
         ensures { IfOk result (λ made. made ≡ []) }
     {
@@ -179,6 +184,7 @@ impl<'a, R: Wait + Net + time::Clock, G: SyncGroup> Callbacks<'a, R, G> {
             calls: Slab::new(alloc),
             socket_set,
             sparing: Sparing::new(alloc, least_pause),
+            token_cache: TokenCache::new(token),
             looked: 0,
             clock,
             wakers,
@@ -202,6 +208,7 @@ impl<'a, R: Wait + Net + time::Clock, G: SyncGroup> Callbacks<'a, R, G> {
             calls,
             mut socket_set,
             sparing,
+            token_cache,
             looked: _,
             clock: _,
             wakers: _,
@@ -210,6 +217,7 @@ impl<'a, R: Wait + Net + time::Clock, G: SyncGroup> Callbacks<'a, R, G> {
         } = self;
         drop(calls);
         drop(sparing);
+        drop(token_cache);
         socket_set.hosts.part(rt, quota);
         drop(socket_set);
     }
@@ -259,6 +267,9 @@ impl<'a, R: Wait + Net + time::Clock, G: SyncGroup> Callbacks<'a, R, G> {
         ensures { self.new ≡ self.old }
     {
         self.go_on_all();
+        if !self.token_cache.renew(self.rt) {
+            return;
+        }
         for _ in 0..self.socket_set.awaiting_sync.len() {
             let Some(key) = self.socket_set.awaiting_sync.front().copied() else {
                 return;
@@ -281,7 +292,8 @@ impl<'a, R: Wait + Net + time::Clock, G: SyncGroup> Callbacks<'a, R, G> {
         let Some(call) = self.calls.get_mut(key) else {
             return true;
         };
-        match call.begin(self.rt, self.alloc, self.group) {
+        let extra = self.token_cache.extra_fields();
+        match call.begin(self.rt, self.alloc, self.group, extra) {
             Leave::Later => return false,
             Leave::Never => self.socket_set.end(key),
             Leave::Now(socket) => self.socket_set.enlist(key, socket),

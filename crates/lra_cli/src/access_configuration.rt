@@ -6,7 +6,7 @@ use lra_ids::Base;
 use lra_operators_server::{PortFault, read_key};
 use lra_options::{Options, OptionsFault, RawOptions, Word, wrong};
 use lra_rules::{Rule, RuleFault, Rules};
-use lra_server::{AccessPolicy, keys_trouble};
+use lra_server::{AccessPolicy, TokenFile, TokenFileFault, keys_trouble, token_trouble};
 use lra_settings::Settings;
 use lra_storage::{Fence, Fenced};
 use std::alloc::{AllocError, Global};
@@ -41,6 +41,8 @@ pub(crate) struct PolicyParts {
     members_via: Option<SocketAddr>,
     /// Seconds after which a request may be sent again, in replies to those refused for what goes away by itself.
     retry_after: Option<u64>,
+    /// File of the token that callbacks give to members, if they give one.
+    member_token: Option<TokenFile>,
     fence: Option<Arc<Fence>>,
 }
 
@@ -64,6 +66,7 @@ impl PolicyParts {
             default_limit: self.default_limit,
             members_via: self.members_via,
             retry_after: self.retry_after,
+            member_token: self.member_token.as_ref(),
         }
     }
 
@@ -96,6 +99,25 @@ fn keys_of<R: AllocGlobal + Files<File = File> + KeyFiles>(
     match KeyStore::open(rt, alloc, path) {
         Ok(key_store) => Ok(Some(key_store)),
         Err(fault) => Err(keys_fault(alloc, path, fault)),
+    }
+}
+
+/// Reads the token of the file for members that the options name, if they name one.
+fn member_token_of<R: AllocGlobal + Files<File = File> + KeyFiles>(
+    rt: &R,
+    said: &RawOptions<'_>,
+) -> Result<Option<TokenFile>, OptionsFault> {
+    let alloc = rt.alloc();
+    let Some(path) = said.text(Word::MemberToken) else {
+        return Ok(None);
+    };
+    match TokenFile::open(rt, alloc, path) {
+        Ok(file) => Ok(Some(file)),
+        Err(TokenFileFault::Unread(fault)) => Err(keys_fault(alloc, path, fault)),
+        Err(fault) => match token_trouble(alloc, path, fault) {
+            Some(why) => Err(OptionsFault::Wrong(why)),
+            None => Err(OptionsFault::Memory),
+        },
     }
 }
 
@@ -273,6 +295,7 @@ pub(crate) fn access_configuration_of<R: AllocGlobal + Files<File = File> + KeyF
             names: names_of(alloc, &options.said)?,
             rules: rules_of(alloc, &options.said)?,
             members_via: members_via_of(alloc, &options.said)?,
+            member_token: member_token_of(rt, &options.said)?,
             default_limit: options.settings.default_limit_ms,
             retry_after: retry_after_of(&options.settings),
             fence: fence_of(rt, &options.said)?,

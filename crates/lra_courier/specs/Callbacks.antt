@@ -1,5 +1,5 @@
 -- The request of a callback (MicroProfile LRA 2.0, participant methods and context headers; RFC 9112, sections 3 to 6).
-use Rattle.std.specs.Prelude.{ℕ, List, [], ◌∷◌, ◌++◌, length, map, codes, decimal, Option, Some, None}
+use Rattle.std.specs.Prelude.{ℕ, List, [], ◌∷◌, ◌++◌, length, map, codes, decimal, Option, Some, None, option_map}
 use Rattle.std.specs.Option.{option_map_or}
 use Rattle.std.specs.Borrow.{Bor}
 use Rattle.lra_model.specs.declared.status.ActionStatus.{ActionStatus}
@@ -11,6 +11,19 @@ use Rattle.lra_ids.specs.Addresses.{authority_of, target_of}
 use Rattle.lra_commands.specs.Errands.{Asking}
 use Rattle.lra_wire.specs.declared.write.RequestWrite.{RequestWrite}
 use Rattle.lra_wire.specs.Writing.{request_text}
+use Rattle.lra_courier.specs.declared.extra_fields.ExtraFields.{ExtraFields}
+
+-- what a request has besides the callback's own fields: the credentials of a token, where there is one
+pub record Extra : Type 0 where
+  pub token : Option (List ℕ)
+
+-- nothing besides those
+abbrev pub no_extra : Extra
+no_extra = record { token = None }
+
+-- the texts of extra fields, wherever these lie in memory
+abbrev pub extra_of : ExtraFields → Extra
+extra_of e = record { token = option_map (λ token. token.now) e.token }
 
 -- what a callback says to its member, and in which direction: an errand without the coordinator's own numbers
 pub record Calling : Type 0 where
@@ -21,8 +34,9 @@ pub record Calling : Type 0 where
   pub parent_uri : Option (List ℕ)
   pub recovery_uri : List ℕ
   pub ended : Option ActionStatus
+  pub extra : Extra
 
--- the callback of an errand
+-- the callback of an errand, with no extra fields
 abbrev pub calling_of : Asking → Calling
 calling_of e = record {
   kind = e.kind;
@@ -32,7 +46,12 @@ calling_of e = record {
   parent_uri = e.parent_uri;
   recovery_uri = e.recovery_uri;
   ended = e.ended;
+  extra = no_extra;
 }
+
+-- the same callback with these extra fields
+abbrev pub calling_with : Extra → Calling → Calling
+calling_with extra c = record c { extra = extra }
 
 -- the method by kind (MicroProfile LRA 2.0: GET asks for a status, and DELETE lets a member forget)
 abbrev pub method_of : AskKind → List ℕ
@@ -70,6 +89,15 @@ content_fields ask.Complete size = (codes "Content-Length", size) ∷ []
 content_fields ask.Compensate size = (codes "Content-Length", size) ∷ []
 content_fields _ size = []
 
+-- the field with a token, where there is one (RFC 6750, section 2.1)
+abbrev pub token_fields : Option (List ℕ) → List Field
+token_fields None = []
+token_fields (Some credentials) = (codes "Authorization", credentials) ∷ []
+
+-- the extra fields, in order
+abbrev pub extra_fields : Extra → List Field
+extra_fields e = token_fields e.token
+
 -- the fields, in order; each request has a connection of its own (RFC 9112, sections 3.2 and 9.6)
 abbrev pub fields_of : Calling → List Field
 fields_of c =
@@ -77,7 +105,8 @@ fields_of c =
     ++ (parent_fields c.parent_uri
     ++ (((codes "Long-Running-Action-Recovery", c.recovery_uri) ∷ [])
     ++ (content_fields c.kind (decimal (length (body_of c.kind c.ended)))
-    ++ ((codes "Connection", codes "close") ∷ []))))
+    ++ (extra_fields c.extra
+    ++ ((codes "Connection", codes "close") ∷ [])))))
 
 -- a value as a writer borrows it, wherever it lies in memory
 abbrev pub lent : {X : Type 0} → X → Bor X

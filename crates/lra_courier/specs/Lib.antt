@@ -1,4 +1,5 @@
 pub mod Replies
+pub mod Tokens
 pub mod Callbacks
 pub mod Exchanges
 pub mod Carried

@@ -5,6 +5,7 @@ ghost use Rattle.lra_ids.specs.Addresses.{authority_of};
 ghost use Rattle.lra_courier.specs.Callbacks as spec;
 ghost use Rattle.lra_courier.specs.inner.Fields.{seen};
 
+use crate::extra_fields::ExtraFields;
 use lra_core::Errand;
 use lra_model::{ActionStatus, AskKind, Direction};
 use std::alloc::{AllocError, Global};
@@ -12,7 +13,7 @@ use std::marker::Model;
 
 /// Contents of an errand to its member, and their direction. A contract sees the texts, and not where they lie in
 /// memory.
-#[derive(Debug, Drop)]
+#[derive(Drop)]
 pub struct Callback<'a> {
     pub kind: AskKind,
     pub direction: Direction,
@@ -26,11 +27,13 @@ pub struct Callback<'a> {
     pub recovery_uri: &'a str,
     /// Status in which the action ended, at an after notice.
     pub ended: Option<ActionStatus>,
+    /// Fields of the request besides these.
+    pub extra: ExtraFields<'a>,
 }
 
 impl<'a> Model for Callback<'a> {
     ghost use Rattle.std.specs.Prelude.{option_map};
-    ghost use Rattle.lra_courier.specs.Callbacks.{Calling};
+    ghost use Rattle.lra_courier.specs.Callbacks.{Calling, extra_of};
 
     ghost Value = { Calling };
 
@@ -42,6 +45,7 @@ impl<'a> Model for Callback<'a> {
       parent_uri = option_map (λ uri. uri.now) c.parent_uri;
       recovery_uri = c.recovery_uri.now;
       ended = c.ended;
+      extra = extra_of c.extra;
     } };
 }
 
@@ -112,10 +116,31 @@ fn push_parent<'a>(
     }
 }
 
+// Appends the field with the credentials of a token, if there is one.
+fn push_token<'a>(
+    fields: &mut Vec<(&'a str, &'a str)>,
+    credentials: Option<&'a str>,
+) -> Result<(), AllocError>
+    ensures { OnOk result (seen fields.new.items ≡ seen fields.old.items
+        ++ spec.token_fields (option_map (λ text. text.now) credentials.entry)) }
+{
+    match credentials {
+        Some(text) => push(fields, "Authorization", text),
+        None => Ok(()),
+    }
+}
+
 impl<'a> Callback<'a> {
-    /// Returns the callback of an errand.
+    /// Returns the callback of an errand, with no extra fields.
     pub fn of(errand: &'a Errand) -> Callback<'a>
         ensures { result ≡ spec.calling_of errand.now }
+    {
+        Callback::of_with(errand, ExtraFields::none())
+    }
+
+    /// Returns the callback of an errand, with extra fields.
+    pub fn of_with(errand: &'a Errand, extra: ExtraFields<'a>) -> Callback<'a>
+        ensures { result ≡ spec.calling_with (spec.extra_of extra.entry) (spec.calling_of errand.now) }
     {
         Callback {
             kind: errand.kind(),
@@ -125,6 +150,7 @@ impl<'a> Callback<'a> {
             parent_uri: errand.parent_uri(),
             recovery_uri: errand.recovery_uri(),
             ended: errand.ended(),
+            extra,
         }
     }
 
@@ -163,6 +189,7 @@ impl<'a> Callback<'a> {
             self.recovery_uri,
         )?;
         push_content(&mut fields, self.kind, size)?;
+        push_token(&mut fields, self.extra.credentials())?;
         push(&mut fields, "Connection", "close")?;
         Ok(fields)
     }

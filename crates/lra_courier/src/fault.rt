@@ -17,6 +17,17 @@ pub enum SendFault {
     Memory,
 }
 
+/// Why a text makes no token.
+#[derive(Clone, Copy, Debug, PartialEq, Eq, Error)]
+pub enum TokenFault {
+    /// The text can't be a bearer token.
+    #[error("not a bearer token")]
+    NotToken,
+    /// A growth was refused.
+    #[error("out of memory")]
+    Memory,
+}
+
 /// Why a callback came to nothing.
 #[derive(Clone, Copy, Debug, PartialEq, Eq, Error)]
 pub enum CallFault {

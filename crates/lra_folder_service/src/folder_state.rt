@@ -286,11 +286,23 @@ impl<'s, 'a: 's, R: Wait, H, B: Drop> FolderState<'s, 'a, R, H, B> {
     }
 }
 
-impl<'s, 'a: 's, R: Wait + time::Clock, H, B: Drop> FolderState<'s, 'a, R, H, B> {
+impl<'s, 'a: 's, R: KeyFiles + Wait + time::Clock, H: Notifier, B: Drop> FolderState<
+    's,
+    'a,
+    R,
+    H,
+    B,
+> {
     /// Runs the wake relay of the callback workers.
     fn wake(&self) {
-        self.wake_relay
-            .run(self.rt, self.alloc, self.journal_registry, self.ending);
+        self.wake_relay.run(
+            self.rt,
+            self.alloc,
+            self.notifier,
+            self.access_policy,
+            self.journal_registry,
+            self.ending,
+        );
     }
 }
 
@@ -326,6 +338,7 @@ impl<'s, 'a: 's, R: Wait + time::Clock + Net, H, B: Drop> FolderState<'s, 'a, R,
             &journal.wakers,
             0,
             &journal.outcomes,
+            self.access_policy.shared_token(),
         )
     }
 }

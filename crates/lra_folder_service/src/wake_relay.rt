@@ -1,7 +1,9 @@
 //! Wake relay of the callback workers.
 
+use lra_admission::KeyFiles;
+use lra_opening::Notifier;
 use lra_registry::JournalRegistry;
-use lra_server::ServiceEnding;
+use lra_server::{AccessPolicy, ServiceEnding};
 use mio::{Events, Poll, Waker};
 use std::alloc::Global;
 use std::net::Net;
@@ -55,11 +57,14 @@ impl WakeRelay {
     }
 
     /// Wakes the callback workers of journals with news, until no connection worker is left. Does so whenever the relay
-    /// is woken, and once a second at least.
-    pub(crate) fn run<R: Wait + Clock, B: Drop>(
+    /// is woken, and once a second at least. Before that it reads the file of the members' token again if it has
+    /// changed.
+    pub(crate) fn run<R: KeyFiles + Wait + Clock, H: Notifier, B: Drop>(
         &self,
         rt: &R,
         alloc: Global,
+        notifier: &H,
+        access_policy: AccessPolicy<'_>,
         journal_registry: &JournalRegistry<B>,
         ending: &Arc<ServiceEnding>,
     ) {
@@ -75,6 +80,7 @@ impl WakeRelay {
             if waited.is_err() || ending.is_over() {
                 return;
             }
+            access_policy.look(rt, notifier);
             journal_registry.wake(rt);
         }
     }

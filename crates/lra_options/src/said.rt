@@ -24,6 +24,8 @@ pub enum Word {
     Members,
     /// The address of the proxy by which members are called.
     MembersVia,
+    /// The file with the token that callbacks give to members.
+    MemberToken,
     /// The level from which on events are logged.
     Log,
     /// Format in which events are logged.
@@ -34,7 +36,7 @@ pub enum Word {
 
 impl Word {
     /// All these options, in the order of the help.
-    pub const ALL: [Word; 12] = [
+    pub const ALL: [Word; 13] = [
         Word::Base,
         Word::AlsoBase,
         Word::Token,
@@ -44,6 +46,7 @@ impl Word {
         Word::Origin,
         Word::Members,
         Word::MembersVia,
+        Word::MemberToken,
         Word::Log,
         Word::LogFormat,
         Word::Fence,
@@ -61,6 +64,7 @@ impl Word {
             Word::Origin => "origin",
             Word::Members => "members",
             Word::MembersVia => "members-via",
+            Word::MemberToken => "member-token",
             Word::Log => "log",
             Word::LogFormat => "log-format",
             Word::Fence => "fence",
@@ -76,7 +80,8 @@ impl Word {
     pub(crate) fn unit(self) -> &'static str {
         match self {
             Word::Base | Word::AlsoBase => "URL",
-            Word::Token | Word::OperatorsKey | Word::Key | Word::Fence => "FILE",
+            Word::Token | Word::OperatorsKey | Word::Key => "FILE",
+            Word::MemberToken | Word::Fence => "FILE",
             Word::Operators => "ADDRESS",
             Word::Origin => "NAME",
             Word::Members => "RULE",
@@ -110,6 +115,7 @@ impl Word {
             Word::MembersVia => {
                 "The proxy by which members are called; joins may then name https addresses [none]"
             }
+            Word::MemberToken => "The file with the token that callbacks give to members [none]",
             Word::Log =>
                 "Events from this level on go to standard error: error, warn, info or debug [none]",
             Word::LogFormat => "How they are written: text or json [text]",

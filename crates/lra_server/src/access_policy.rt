@@ -2,10 +2,12 @@
 
 ghost use Rattle.std.specs.Prelude.{◌≡◌};
 
+use crate::token_file::TokenFile;
 use lra_admission::{
     AuthenticationFilter, KeyCache, KeyFiles, KeyStore, KeysFault, Name, RefusalListener,
     ReloadListener,
 };
+use lra_callbacks::SharedToken;
 use lra_front::ApiError;
 use lra_ids::Base;
 use lra_logs::{Event, EventSink, Port};
@@ -39,6 +41,8 @@ pub struct AccessPolicy<'a> {
     pub members_via: Option<SocketAddr>,
     /// Seconds after which a request may be sent again, in replies to those refused for what goes away by itself.
     pub retry_after: Option<u64>,
+    /// File of the token that callbacks give to members, if they give one.
+    pub member_token: Option<&'a TokenFile>,
 }
 
 impl<'a> AccessPolicy<'a> {
@@ -54,6 +58,22 @@ impl<'a> AccessPolicy<'a> {
             default_limit: 0,
             members_via: None,
             retry_after: None,
+            member_token: None,
+        }
+    }
+
+    /// Returns the token that callbacks give to members, if they give one.
+    pub fn shared_token(&self) -> Option<&'a SharedToken> {
+        match self.member_token {
+            Some(file) => Some(file.token()),
+            None => None,
+        }
+    }
+
+    /// Reads the file of the members' token again if there is one and it has changed, and reports the outcome.
+    pub fn look<R: KeyFiles + Wait, H: Notifier>(&self, rt: &R, notifier: &H) {
+        if let Some(file) = self.member_token {
+            file.look(rt, notifier);
         }
     }
 }

@@ -15,6 +15,7 @@ mod notifier;
 mod shares;
 mod socket_acceptor;
 mod stamina;
+mod token_file;
 mod toml_lines;
 
 pub use access_policy::{
@@ -33,4 +34,5 @@ pub use notifier::{
 };
 pub use shares::{CallbackSettings, limits_of, times_of};
 pub use socket_acceptor::{SocketAcceptor, make_socket_acceptor};
+pub use token_file::{TokenFile, TokenFileFault, token_trouble};
 pub use toml_lines::{put_number, put_text, put_texts};

@@ -265,6 +265,52 @@ impl<R: Wait + Clock, H> ServiceState<'_, R, H> {
     }
 }
 
+impl<R: KeyFiles + Wait + Clock, H: Notifier + EventSink> ServiceState<'_, R, H> {
+    /// Reports what is added to the file, until no connection worker answers any more. With a member's silence, reports
+    /// the outcome of its last callback. Reads the file of the members' token again whenever it has changed.
+    fn report(&self) {
+        let Some(mut file_tail) = self.file_tail.lock(self.rt).take() else {
+            return;
+        };
+        for _ in self.rt.forever() {
+            let is_over = self.ending.is_over();
+            self.access_policy.look(self.rt, self.notifier);
+            file_tail.report(self.rt, self.notifier, Some(&self.outcomes));
+            if self.measure.tallies.has_stopped(file_tail.journal()) {
+                file_tail.stop(self.notifier);
+            }
+            if is_over {
+                *self.file_tail.lock(self.rt) = Some(file_tail);
+                return;
+            }
+            thread::sleep(self.rt, Duration::from_millis(LOOK));
+        }
+    }
+
+    /// Reads the file of the members' token again whenever it has changed, until no connection worker answers any more.
+    fn follow_token(&self) {
+        if self.access_policy.member_token.is_none() {
+            return;
+        }
+        for _ in self.rt.forever() {
+            if self.ending.is_over() {
+                return;
+            }
+            self.access_policy.look(self.rt, self.notifier);
+            thread::sleep(self.rt, Duration::from_millis(LOOK));
+        }
+    }
+
+    /// Waits until all threads have started, and reports what is added to the journal's file. If nothing can be
+    /// reported, follows the file of the members' token alone.
+    pub(crate) fn start_reports(&self) {
+        if self.latch.pass(self.rt) {
+            self.report();
+            self.follow_token();
+        }
+    }
+}
+
 impl<R: Wait + Clock, H: EventSink> ServiceState<'_, R, H> {
     /// Answers operators, at an office whose lock the type names.
     fn watch_at<V: LockedService, Q: WhichLock>(
@@ -312,26 +358,6 @@ impl<R: Wait + Clock, H: EventSink> ServiceState<'_, R, H> {
         }
     }
 
-    /// Reports what is added to the file, until no connection worker answers any more. With a member's silence, reports
-    /// the outcome of its last callback.
-    fn report(&self) {
-        let Some(mut file_tail) = self.file_tail.lock(self.rt).take() else {
-            return;
-        };
-        for _ in self.rt.forever() {
-            let is_over = self.ending.is_over();
-            file_tail.report(self.rt, self.notifier, Some(&self.outcomes));
-            if self.measure.tallies.has_stopped(file_tail.journal()) {
-                file_tail.stop(self.notifier);
-            }
-            if is_over {
-                *self.file_tail.lock(self.rt) = Some(file_tail);
-                return;
-            }
-            thread::sleep(self.rt, Duration::from_millis(LOOK));
-        }
-    }
-
     /// Reports what was added to the file since, once all threads have ended: callbacks may be the last to do so.
     pub(crate) fn report_rest(&self) {
         let taken = self.file_tail.lock(self.rt).take();
@@ -348,13 +374,6 @@ impl<R: Wait + Clock, H: EventSink> ServiceState<'_, R, H> {
         });
         self.follow(journal);
         self.latch.decide(self.rt, true);
-    }
-
-    /// Waits until all threads have started, and reports what is added to the journal's file.
-    pub(crate) fn start_reports(&self) {
-        if self.latch.pass(self.rt) {
-            self.report();
-        }
     }
 }
 
@@ -403,6 +422,7 @@ impl<R: Wait + Clock + Net, H> ServiceState<'_, R, H> {
             &self.wakers,
             place as usize,
             &self.outcomes,
+            self.access_policy.shared_token(),
         )
     }
 

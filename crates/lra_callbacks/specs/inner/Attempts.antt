@@ -8,8 +8,9 @@ use Rattle.lra_model.specs.declared.asks.Outcome.{Outcome}
 use Rattle.lra_model.specs.declared.asks.Outcome.TheVariants.{Silent}
 use Rattle.lra_commands.specs.Errands.{Asking}
 use Rattle.lra_courier.specs.Sockets.{socket_text}
+use Rattle.lra_courier.specs.Callbacks.{Extra}
 use Rattle.lra_courier.specs.Carried.{Carried}
-use Rattle.lra_callbacks.specs.Outcomes.{IsFor}
+use Rattle.lra_callbacks.specs.Outcomes.{IsForWith}
 
 -- the exchange still asks the same member the same
 pub record IsOfSame (old new : Carried) : Type 0 where
@@ -32,7 +33,8 @@ TakesIn old new before after = (bytes : List ℕ) × Consumes before after bytes
 abbrev pub outcome_of : Carried → Outcome
 outcome_of c = unwrap_or (option_map (λ told. result_unwrap_or told Silent) c.came) Silent
 
--- the exchange is the callback of an errand, and goes to the host and port of the errand's address
-pub record Goes (carried : Carried) (socket : String Global) (errand : Asking) : Type 0 where
-  pub own : IsFor carried errand
+-- the exchange is the callback of an errand with these extra fields, and goes to the host and port of the errand's
+-- address
+pub record Goes (extra : Extra) (carried : Carried) (socket : String Global) (errand : Asking) : Type 0 where
+  pub own : IsForWith extra carried errand
   pub to : string_bytes socket ≡ socket_text errand.address

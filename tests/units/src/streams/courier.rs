@@ -7,8 +7,9 @@ mod memory;
 mod replies;
 mod streams;
 mod tcp;
+mod tokens;
 
-use lra_courier::Callback;
+use lra_courier::{Callback, ExtraFields};
 use lra_model::{AskKind, Direction};
 
 /// Returns a callback to forget at this address.
@@ -21,5 +22,6 @@ fn forget(address: &str) -> Callback<'_> {
         parent_uri: None,
         recovery_uri: "http://c.test/r",
         ended: None,
+        extra: ExtraFields::none(),
     }
 }

@@ -1,7 +1,7 @@
 //! Callback exchanges: as steps, in pieces, and by `exchange`.
 use crate::streams::pieces::{Pieces, Sink};
 use crate::streams::rows::{parted, repeated, written_out};
-use lra_courier::{CallFault, Callback, CallbackExchange, Step};
+use lra_courier::{CallFault, Callback, CallbackExchange, ExtraFields, Step};
 use lra_model::{AskKind, Direction, Outcome};
 use std::alloc::{AllocError, Global};
 
@@ -45,6 +45,7 @@ pub(super) fn asked() -> Callback<'static> {
         parent_uri: None,
         recovery_uri: "http://c.test/r",
         ended: None,
+        extra: ExtraFields::none(),
     }
 }
 

@@ -1,6 +1,6 @@
 use crate::streams::pieces::{Pieces, Sink};
 use crate::streams::rows::{parted, repeated, written_out};
-use lra_courier::{Callback, SendFault};
+use lra_courier::{Callback, ExtraFields, SendFault};
 use lra_model::{ActionStatus, AskKind, Direction, Outcome};
 use std::alloc::Global;
 
@@ -73,6 +73,7 @@ fn callback(kind: AskKind, address: &str) -> Callback<'_> {
         parent_uri,
         recovery_uri: RECOVERY,
         ended: Some(ActionStatus::FailedToCancel),
+        extra: ExtraFields::none(),
     }
 }
 

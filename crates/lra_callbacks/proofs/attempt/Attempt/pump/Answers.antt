@@ -12,7 +12,7 @@ invariant_of-self g c = record {
   leave = λ x e. subst (λ (f : Flight). ForSome c.args.self.now.errand
       (λ y. MayLeave (g.G.SyncGroup.keeps c.args.self.now.instance) y.1 f.kept)) (same_Some _ x e)
       (c.args.self.now.leave c.in-Some.flight c.in-Some.is);
-  own = λ x e. subst (λ (f : Flight). ForSome c.args.self.now.errand (λ y. IsFor f.callback_exchange y.0))
+  own = λ x e. subst (λ (f : Flight). ForSome c.args.self.now.errand (λ y. ∥ IsFor f.callback_exchange y.0 ∥₁))
       (same_Some _ x e)
       (same_for c.in-Some.flight.callback_exchange c.pump.new.callback_exchange c.args.self.now.errand c.pump.ensures
       (c.args.self.now.own c.in-Some.flight c.in-Some.is));
