@@ -42,6 +42,7 @@ NUMBERS = (
 # Options whose values are texts, and those of them that may be said any number of times.
 WORDS = (
     *("base", "also-base", "token", "operators", "operators-key", "key", "origin", "members", "members-via"),
+    "member-token",
     *("log", "log-format", "fence"),
 )
 LISTS = ("also-base", "origin", "members")

@@ -166,6 +166,7 @@ fn carry<R: Wait + Net + Clock>(
         &wakers,
         0,
         &outcomes,
+        None,
     );
     match made {
         Ok(mut callbacks) => {
@@ -409,6 +410,7 @@ fn rested<R: Wait + Net + Clock>(rt: &R, alloc: Global, millis: Option<u64>) -> 
         &wakers,
         0,
         &outcomes,
+        None,
     );
     let Ok(mut callbacks) = made else {
         return None;

@@ -78,6 +78,7 @@ impl Ground {
             &self.wakers,
             place,
             &self.outcomes,
+            None,
         );
         made.ok()
     }

@@ -92,6 +92,7 @@ fn asked_twice<R: Wait + Net + Clock>(rt: &R, alloc: Global, twice: Twice) -> Op
         &wakers,
         0,
         &outcomes,
+        None,
     );
     let Ok(mut callbacks) = made else {
         return None;

@@ -75,6 +75,7 @@ where
         &wakers,
         0,
         &outcomes,
+        None,
     );
     let Ok(mut callbacks) = made else {
         return None;
