@@ -1,3 +1,4 @@
 pub mod Comparing
 pub mod Giving
 pub mod Texts
+pub mod Replying

@@ -4,4 +4,5 @@ pub mod Forms
 pub mod Access
 pub mod Denials
 pub mod Orders
+pub mod Replies
 pub mod inner

@@ -1,5 +1,8 @@
 //! The tallies of a service while it runs.
 
+ghost use Rattle.std.specs.Prelude.{◌≡◌, IfOk};
+ghost use Rattle.lra_operators_server.specs.Syncs.{limit_of};
+
 use crate::denied::Denied;
 use crate::histogram::{Measured, put_histogram};
 use crate::noted_journals::NotedJournals;
@@ -160,7 +163,9 @@ impl Tallies {
         alloc: Global,
         operators_server: Option<&OperatorsServer>,
         sync_seconds: u64,
-    ) -> Result<Tallies, Memory> {
+    ) -> Result<Tallies, Memory>
+        ensures limit { IfOk result (λ tallies. tallies.sync_limit ≡ limit_of sync_seconds) }
+    {
         Ok(Tallies {
             requests: Table::new(alloc, &REQUESTS)?,
             request_times: Histogram::new(alloc, &TIMES)?,
@@ -193,7 +198,9 @@ impl Tallies {
     }
 
     /// Returns how many milliseconds a sync may take.
-    pub fn sync_limit(&self) -> u64 {
+    pub fn sync_limit(&self) -> u64
+        ensures { result ≡ self.now.sync_limit }
+    {
         self.sync_limit
     }
 

@@ -2,6 +2,8 @@ pub mod Orders
 pub mod Health
 pub mod Laying
 pub mod Standings
+pub mod Counts
+pub mod Measures
 pub mod Pictures
 pub mod Pages
 pub mod Lists

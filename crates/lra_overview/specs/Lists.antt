@@ -115,3 +115,7 @@ action i w ms nested is_cut =
     joined
     (head i w ∷ codes ",\"members\":[" ∷ members i true ms ∷ codes "],\"nested\":[" ∷ rows i true nested
     ∷ cut is_cut ∷ [])
+
+-- an object of one text under a key
+abbrev pub text_object : List ℕ → List ℕ → List ℕ
+text_object key text = joined (codes "{\"" ∷ key ∷ codes "\":" ∷ quoted text ∷ codes "}\n" ∷ [])

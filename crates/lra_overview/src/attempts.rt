@@ -1,7 +1,7 @@
 //! Members, and the outcomes of the last callbacks of those that wait.
 
-ghost use Rattle.std.specs.Prelude.{◌≡◌};
-ghost use Rattle.lra_overview.specs.Laying as laying;
+ghost use Rattle.std.specs.Prelude.{◌≡◌, ◌++◌, OnOk, IfOk};
+ghost use Rattle.lra_overview.specs.Standings.{member_at, members_of};
 
 use crate::faults::Trouble;
 use crate::gather::MemberRow;
@@ -129,15 +129,35 @@ pub fn lines_of<O: Overview>(
     }
 }
 
-/// Returns the members of a tree.
-pub fn members_in(alloc: Global, nodes: &[Node]) -> Result<Vec<MemberRow>, Memory> {
-    let mut rows = Vec::new(alloc);
-    for node in nodes {
-        if let NodeOf::Member(row) = node.of {
-            rows.push(row)?;
-        }
+/// Adds the member that a node stands for, if it stands for one.
+fn add_member(rows: &mut Vec<MemberRow>, node: &Node) -> Result<(), Memory>
+    ensures { OnOk result (rows.new.items ≡ rows.old.items ++ member_at node.now) }
+{
+    match node.of {
+        NodeOf::Member(row) => Ok(rows.push(row)?),
+        NodeOf::Action(_) => Ok(()),
     }
-    Ok(rows)
+}
+
+/// Adds the members of a tree.
+fn add_members(rows: &mut Vec<MemberRow>, nodes: &[Node]) -> Result<(), Memory>
+    ensures { OnOk result (rows.new.items ≡ rows.old.items ++ members_of nodes.now) }
+{
+    for node in nodes {
+        add_member(rows, node)?;
+    }
+    Ok(())
+}
+
+/// Returns the members of a tree.
+pub fn members_in(alloc: Global, nodes: &[Node]) -> Result<Vec<MemberRow>, Memory>
+    ensures { IfOk result (λ rows. rows.items ≡ members_of nodes.now) }
+{
+    let mut rows = Vec::new(alloc);
+    match add_members(&mut rows, nodes) {
+        Ok(()) => Ok(rows),
+        Err(error) => Err(error),
+    }
 }
 
 /// Returns whether a member answered its last callback that it is at it.

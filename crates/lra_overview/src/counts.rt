@@ -1,6 +1,7 @@
 //! Counts of actions and members.
 
-ghost use Rattle.std.specs.Prelude.{◌≡◌, ◌≤◌, ◌<◌, ◌+◌, ◌^◌};
+ghost use Rattle.std.specs.Prelude.{◌≡◌, ◌≤◌, ◌<◌, ◌+◌, ◌^◌, None};
+ghost use Rattle.lra_overview.specs.Counts.{no_overdue, overdue_in_both, no_totals, totals_with, summed};
 
 use crate::census::Census;
 use crate::faults::Trouble;
@@ -34,7 +35,11 @@ pub struct Counts {
 
 impl Counts {
     /// Returns counts of 0.
-    pub fn none() -> Counts {
+    pub fn none() -> Counts
+        ensures numbers { (result.actions ≡ 0) × (result.members ≡ 0) × (result.untold ≡ 0) × (result.failures ≡ 0) }
+        ensures oldest { result.oldest ≡ None }
+        ensures overdue { result.overdue ≡ no_overdue }
+    {
         Counts {
             shares: NONE,
             actions: 0,
@@ -47,7 +52,14 @@ impl Counts {
     }
 
     /// Adds the counts of another journal.
-    pub fn add(&mut self, others: &Counts) {
+    pub fn add(&mut self, others: &Counts)
+        ensures actions { self.new.actions ≡ summed self.old.actions others.now.actions }
+        ensures members { self.new.members ≡ summed self.old.members others.now.members }
+        ensures oldest { self.new.oldest ≡ self.old.oldest }
+        ensures overdue { self.new.overdue ≡ overdue_in_both self.old.overdue others.now.overdue }
+        ensures untold { self.new.untold ≡ summed self.old.untold others.now.untold }
+        ensures failures { self.new.failures ≡ summed self.old.failures others.now.failures }
+    {
         add_shares(&mut self.shares, &others.shares);
         self.actions = self.actions.saturating_add(others.actions);
         self.members = self.members.saturating_add(others.members);
@@ -62,6 +74,7 @@ pub fn grown(base: u64, current: u64) -> u64
     ensures keeps { base ≤ result }
     ensures has { current ≤ result }
     ensures sum { base + current < 2 ^ 64 → result ≡ base + current }
+    ensures summed { result ≡ summed base current }
 {
     base.saturating_add(current)
 }
@@ -80,7 +93,9 @@ impl Totals {
     ghost use Rattle.std.specs.Prelude.{◌≤◌};
 
     /// Returns the totals of no journal.
-    pub fn none() -> Totals {
+    pub fn none() -> Totals
+        ensures { result ≡ no_totals }
+    {
         Totals {
             actions: 0,
             members: 0,
@@ -93,6 +108,7 @@ impl Totals {
         ensures actions { self.old.actions ≤ self.new.actions }
         ensures members { self.old.members ≤ self.new.members }
         ensures failed { self.old.failed ≤ self.new.failed }
+        ensures sums { self.new ≡ totals_with self.old counts.now }
     {
         self.actions = grown(self.actions, counts.actions);
         self.members = grown(self.members, counts.members);

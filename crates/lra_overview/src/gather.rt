@@ -1,6 +1,7 @@
 //! Gathers the facts of actions for replies, one query after another.
 
 ghost use Rattle.std.specs.Prelude.{◌≡◌};
+ghost use Rattle.lra_overview.specs.Standings.{only_awaits};
 
 use crate::faults::Trouble;
 use crate::laying::left_until;
@@ -53,7 +54,9 @@ pub struct Waiting {
 
 impl Waiting {
     /// Returns an action of which only is known what it waits for.
-    pub fn new(row: ActionRow, awaited: Option<Blocker>) -> Waiting {
+    pub fn new(row: ActionRow, awaited: Option<Blocker>) -> Waiting
+        ensures { result ≡ only_awaits row awaited }
+    {
         Waiting {
             row,
             awaited,

@@ -250,7 +250,9 @@ pub fn put_text(
     page: &mut Vec<u8>,
     key: &'static str,
     text: &str,
-) -> Result<(), Memory> {
+) -> Result<(), Memory>
+    ensures { OnOk result (page.new.items ≡ page.old.items ++ lists.text_object key.now text.now) }
+{
     put(page, "{\"")?;
     put(page, key)?;
     put(page, "\":")?;

@@ -1,6 +1,7 @@
 //! Members that hold up ends.
 
 ghost use Rattle.std.specs.Prelude.{◌≡◌};
+ghost use Rattle.lra_overview.specs.Counts.{no_overdue, overdue_in_both};
 ghost use Rattle.lra_overview.specs.Standings as spec;
 
 use crate::attempts::is_at_it;
@@ -62,7 +63,9 @@ pub fn standing_of(repeats: u64, due: u64, moment: u64, is_at_it: bool) -> Stand
 
 impl Overdue {
     /// Returns counts of 0.
-    pub fn none() -> Overdue {
+    pub fn none() -> Overdue
+        ensures { result ≡ no_overdue }
+    {
         Overdue {
             silent: 0,
             waiting: 0,
@@ -71,7 +74,9 @@ impl Overdue {
     }
 
     /// Adds the counts of another journal.
-    pub fn add(&mut self, others: &Overdue) {
+    pub fn add(&mut self, others: &Overdue)
+        ensures { self.new ≡ overdue_in_both self.old others.now }
+    {
         self.silent = self.silent.saturating_add(others.silent);
         self.waiting = self.waiting.saturating_add(others.waiting);
         self.at_it = self.at_it.saturating_add(others.at_it);

@@ -54,7 +54,7 @@ pub(crate) fn add(shares: &mut Shares, status: ActionStatus, count: u64) {
 }
 
 /// Adds the numbers of other actions, by their status.
-pub fn add_shares(shares: &mut Shares, others: &Shares) {
+pub(crate) fn add_shares(shares: &mut Shares, others: &Shares) {
     for other in others {
         add(shares, other.status, other.count);
     }
