@@ -22,6 +22,7 @@ use lra_durable::SyncGroup;
 use lra_model::{Instance, Outcome};
 use lra_outcomes::{Outcomes, is_telling};
 use lra_rules::Rules;
+use lra_traces::{Traceparent, Traces};
 use mio::{Poll, Waker};
 use slab::Slab;
 use std::alloc::Global;
@@ -60,6 +61,8 @@ pub struct Callbacks<'a, R, G: SyncGroup> {
     sparing: Sparing<'a>,
     /// Token that callbacks give to members, if there is one.
     token_cache: TokenCache<'a>,
+    /// Traces of the requests that end actions, if callbacks bear them.
+    traces: Option<&'a Traces>,
     /// Moment at which it polled its office last.
     looked: u64,
     /// The office's clock.
@@ -140,7 +143,8 @@ impl<'a, R: Wait + Net + time::Clock, G: SyncGroup> Callbacks<'a, R, G> {
     /// aren't known. The clock is the one by which the office's moments are given. If it has ten seconds or less until
     /// the greatest moment, the pause is ten seconds at least. The outcome of each member's last callback is noted in
     /// `outcomes`, unless the callback brought the member further. A callback gives its member the token that is in
-    /// force when it begins, if there is one.
+    /// force when it begins, if there is one; and bears the trace that is noted of its action or the action's parent
+    /// then, if traces are passed on.
     pub fn new(
         rt: &'a R,
         alloc: Global,
@@ -158,6 +162,7 @@ impl<'a, R: Wait + Net + time::Clock, G: SyncGroup> Callbacks<'a, R, G> {
         place: usize,
         outcomes: &'a Outcomes,
         token: Option<&'a SharedToken>,
+        traces: Option<&'a Traces>,
     ) -> Result<Callbacks<'a, R, G>, Poll>
         ensures { IfOk result (λ made. made ≡ []) }
     {
@@ -185,6 +190,7 @@ impl<'a, R: Wait + Net + time::Clock, G: SyncGroup> Callbacks<'a, R, G> {
             socket_set,
             sparing: Sparing::new(alloc, least_pause),
             token_cache: TokenCache::new(token),
+            traces,
             looked: 0,
             clock,
             wakers,
@@ -209,6 +215,7 @@ impl<'a, R: Wait + Net + time::Clock, G: SyncGroup> Callbacks<'a, R, G> {
             mut socket_set,
             sparing,
             token_cache,
+            traces: _,
             looked: _,
             clock: _,
             wakers: _,
@@ -281,6 +288,37 @@ impl<'a, R: Wait + Net + time::Clock, G: SyncGroup> Callbacks<'a, R, G> {
         }
     }
 
+    /// Returns the trace of a call, if callbacks bear them and one is noted.
+    fn trace_of(&self, key: usize) -> Option<Traceparent> {
+        let Some(traces) = self.traces else {
+            return None;
+        };
+        let Some(call) = self.calls.get(key) else {
+            return None;
+        };
+        match call.errand() {
+            Some(errand) => traces.find(self.rt, errand.action_uri(), errand.parent_uri()),
+            None => None,
+        }
+    }
+
+    /// Queues a call for its host with a trace, if the journal is durable up to its position. Returns whether the call
+    /// no longer waits for the sync.
+    fn begin_call(&mut self, key: usize, traceparent: Option<&Traceparent>) -> bool
+        ensures { self.new ≡ self.old }
+    {
+        let Some(call) = self.calls.get_mut(key) else {
+            return true;
+        };
+        let extra = self.token_cache.extra_fields(traceparent);
+        match call.begin(self.rt, self.alloc, self.group, extra) {
+            Leave::Later => return false,
+            Leave::Never => self.socket_set.end(key),
+            Leave::Now(socket) => self.socket_set.enlist(key, socket),
+        }
+        true
+    }
+
     /// Queues a call for the end of its back-off, or for its host, if the journal is durable up to its position.
     /// Returns whether the call no longer waits for the sync.
     fn launch(&mut self, key: usize) -> bool
@@ -289,16 +327,8 @@ impl<'a, R: Wait + Net + time::Clock, G: SyncGroup> Callbacks<'a, R, G> {
         if self.holds(key) {
             return true;
         }
-        let Some(call) = self.calls.get_mut(key) else {
-            return true;
-        };
-        let extra = self.token_cache.extra_fields();
-        match call.begin(self.rt, self.alloc, self.group, extra) {
-            Leave::Later => return false,
-            Leave::Never => self.socket_set.end(key),
-            Leave::Now(socket) => self.socket_set.enlist(key, socket),
-        }
-        true
+        let traceparent = self.trace_of(key);
+        self.begin_call(key, traceparent.as_ref())
     }
 
     /// Waits until the journal is durable up to the last position that a call waits for.

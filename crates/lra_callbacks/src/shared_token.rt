@@ -6,6 +6,7 @@ ghost use Rattle.lra_courier.specs.Callbacks.{extra_of};
 
 use lra_courier::{ExtraFields, Token};
 use lra_model::Memory;
+use lra_traces::Traceparent;
 use std::sync::atomic::{AtomicU64, Ordering};
 use std::sync::{Arc, Mutex, Wait};
 
@@ -79,15 +80,23 @@ impl<'a> TokenCache<'a> {
         true
     }
 
-    /// Returns the extra fields of a callback that begins now.
-    pub(crate) fn extra_fields(&self) -> ExtraFields<'_>
-        ensures { (extra_of result).token ≡ option_map (λ token. arc_value token) self.now.token }
+    /// Returns the extra fields of a callback with that trace that begins now.
+    pub(crate) fn extra_fields<'b>(
+        &'b self,
+        traceparent: Option<&'b Traceparent>,
+    ) -> ExtraFields<'b>
+        ensures traceparent { (extra_of result).traceparent ≡ option_map (λ own. own.now) traceparent.entry }
+        ensures token { (extra_of result).token ≡ option_map (λ token. arc_value token) self.now.token }
     {
         match &self.token {
             Some(token) => ExtraFields {
                 token: Some(&**token),
+                traceparent,
             },
-            None => ExtraFields { token: None },
+            None => ExtraFields {
+                token: None,
+                traceparent,
+            },
         }
     }
 }

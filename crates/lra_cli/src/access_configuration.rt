@@ -9,6 +9,7 @@ use lra_rules::{Rule, RuleFault, Rules};
 use lra_server::{AccessPolicy, TokenFile, TokenFileFault, keys_trouble, token_trouble};
 use lra_settings::Settings;
 use lra_storage::{Fence, Fenced};
+use lra_traces::Traces;
 use std::alloc::{AllocError, Global};
 use std::fs::File;
 use std::net::SocketAddr;
@@ -43,6 +44,8 @@ pub(crate) struct PolicyParts {
     retry_after: Option<u64>,
     /// File of the token that callbacks give to members, if they give one.
     member_token: Option<TokenFile>,
+    /// Traces of the requests that end actions, if they are passed on.
+    traces: Option<Traces>,
     fence: Option<Arc<Fence>>,
 }
 
@@ -67,6 +70,7 @@ impl PolicyParts {
             members_via: self.members_via,
             retry_after: self.retry_after,
             member_token: self.member_token.as_ref(),
+            traces: self.traces.as_ref(),
         }
     }
 
@@ -193,6 +197,15 @@ fn members_via_of(
     }
 }
 
+/// Returns the traces of the requests that end actions, if they are passed on.
+fn traces_of(alloc: Global, is_passed_on: bool) -> Option<Traces> {
+    if is_passed_on {
+        Some(Traces::new(alloc))
+    } else {
+        None
+    }
+}
+
 /// Returns whether a text may be the last part of a base, and is long enough that nobody guesses it.
 fn is_token(text: &str) -> bool {
     let is_plain = text.as_bytes().iter().all(|byte| byte.is_ascii_alphanumeric()
@@ -298,6 +311,7 @@ pub(crate) fn access_configuration_of<R: AllocGlobal + Files<File = File> + KeyF
             member_token: member_token_of(rt, &options.said)?,
             default_limit: options.settings.default_limit_ms,
             retry_after: retry_after_of(&options.settings),
+            traces: traces_of(alloc, options.settings.trace_context),
             fence: fence_of(rt, &options.said)?,
         },
     })

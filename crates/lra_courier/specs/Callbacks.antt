@@ -13,17 +13,21 @@ use Rattle.lra_wire.specs.declared.write.RequestWrite.{RequestWrite}
 use Rattle.lra_wire.specs.Writing.{request_text}
 use Rattle.lra_courier.specs.declared.extra_fields.ExtraFields.{ExtraFields}
 
--- what a request has besides the callback's own fields: the credentials of a token, where there is one
+-- what a request has besides the callback's own fields: the credentials of a token, and a trace, where there are such
 pub record Extra : Type 0 where
   pub token : Option (List ℕ)
+  pub traceparent : Option (List ℕ)
 
 -- nothing besides those
 abbrev pub no_extra : Extra
-no_extra = record { token = None }
+no_extra = record { token = None; traceparent = None }
 
 -- the texts of extra fields, wherever these lie in memory
 abbrev pub extra_of : ExtraFields → Extra
-extra_of e = record { token = option_map (λ token. token.now) e.token }
+extra_of e = record {
+  token = option_map (λ token. token.now) e.token;
+  traceparent = option_map (λ traceparent. traceparent.now) e.traceparent;
+}
 
 -- what a callback says to its member, and in which direction: an errand without the coordinator's own numbers
 pub record Calling : Type 0 where
@@ -94,9 +98,14 @@ abbrev pub token_fields : Option (List ℕ) → List Field
 token_fields None = []
 token_fields (Some credentials) = (codes "Authorization", credentials) ∷ []
 
+-- the field with a trace, where there is one (Trace Context, level 1, section 3.2)
+abbrev pub trace_fields : Option (List ℕ) → List Field
+trace_fields None = []
+trace_fields (Some value) = (codes "traceparent", value) ∷ []
+
 -- the extra fields, in order
 abbrev pub extra_fields : Extra → List Field
-extra_fields e = token_fields e.token
+extra_fields e = token_fields e.token ++ trace_fields e.traceparent
 
 -- the fields, in order; each request has a connection of its own (RFC 9112, sections 3.2 and 9.6)
 abbrev pub fields_of : Calling → List Field

@@ -130,6 +130,20 @@ fn push_token<'a>(
     }
 }
 
+// Appends the field with a trace, if there is one.
+fn push_trace<'a>(
+    fields: &mut Vec<(&'a str, &'a str)>,
+    trace: Option<&'a str>,
+) -> Result<(), AllocError>
+    ensures { OnOk result (seen fields.new.items ≡ seen fields.old.items
+        ++ spec.trace_fields (option_map (λ text. text.now) trace.entry)) }
+{
+    match trace {
+        Some(text) => push(fields, "traceparent", text),
+        None => Ok(()),
+    }
+}
+
 impl<'a> Callback<'a> {
     /// Returns the callback of an errand, with no extra fields.
     pub fn of(errand: &'a Errand) -> Callback<'a>
@@ -190,6 +204,7 @@ impl<'a> Callback<'a> {
         )?;
         push_content(&mut fields, self.kind, size)?;
         push_token(&mut fields, self.extra.credentials())?;
+        push_trace(&mut fields, self.extra.trace())?;
         push(&mut fields, "Connection", "close")?;
         Ok(fields)
     }

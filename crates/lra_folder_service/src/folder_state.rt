@@ -339,6 +339,7 @@ impl<'s, 'a: 's, R: Wait + time::Clock + Net, H, B: Drop> FolderState<'s, 'a, R,
             0,
             &journal.outcomes,
             self.access_policy.shared_token(),
+            self.access_policy.traces,
         )
     }
 }

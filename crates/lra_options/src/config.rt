@@ -119,6 +119,10 @@ fn note_other(
         config.given.stop_at_eof = Some(truth_of(alloc, place, value)?);
         return Ok(());
     }
+    if key == "trace-context" {
+        config.given.trace_context = Some(truth_of(alloc, place, value)?);
+        return Ok(());
+    }
     match Word::from_name(key) {
         Some(word) if word.is_list() => note_texts(alloc, place, word, value, &mut config.said),
         Some(word) => {

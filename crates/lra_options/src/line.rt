@@ -168,9 +168,15 @@ fn with_flags(alloc: Global, command: Command<'_>) -> Result<Command<'_>, AllocE
         "restored",
         "The folder was restored from a copy: nothing is begun any more in its journals",
     );
+    let traces = flag_arg(
+        alloc,
+        "trace-context",
+        "Callbacks bear the traceparent of the request that ended their action",
+    );
     let check = flag_arg(alloc, "check", "Tells what would be served, and ends");
     command
         .arg(stop)?
+        .arg(traces)?
         .arg(drain)?
         .arg(restored)?
         .arg(config)?
@@ -214,6 +220,9 @@ fn given_in(alloc: Global, matches: &ArgMatches<'_>) -> Result<Given, OptionsFau
     }
     if matches.get_flag("stop-at-eof") {
         given.stop_at_eof = Some(true);
+    }
+    if matches.get_flag("trace-context") {
+        given.trace_context = Some(true);
     }
     Ok(given)
 }

@@ -17,6 +17,7 @@ use lra_operators_server::{CountingHandler, Tallies};
 use lra_rewrite::{BodyFilter, RewriteFilter, copy_bases};
 use lra_rules::Rules;
 use lra_steps::Handler;
+use lra_traces::Traces;
 use std::alloc::Global;
 use std::net::SocketAddr;
 use std::sync::Wait;
@@ -43,6 +44,8 @@ pub struct AccessPolicy<'a> {
     pub retry_after: Option<u64>,
     /// File of the token that callbacks give to members, if they give one.
     pub member_token: Option<&'a TokenFile>,
+    /// Traces of the requests that end actions, if callbacks bear them.
+    pub traces: Option<&'a Traces>,
 }
 
 impl<'a> AccessPolicy<'a> {
@@ -59,6 +62,7 @@ impl<'a> AccessPolicy<'a> {
             members_via: None,
             retry_after: None,
             member_token: None,
+            traces: None,
         }
     }
 
@@ -178,7 +182,12 @@ pub fn receive<'a, R: Wait + Clock + KeyFiles, H: Notifier + EventSink, A: Handl
         access_policy.default_limit,
         access_policy.members_via.is_some(),
     );
-    let counted = CountingHandler::new(body_filter, rt, refusal_logger.tallies);
+    let counted = CountingHandler::new(
+        body_filter,
+        rt,
+        refusal_logger.tallies,
+        access_policy.traces,
+    );
     let rewrite_filter = RewriteFilter::new(counted, olders, access_policy.is_strict);
     let told = RefusalLogger::new(
         alloc,

@@ -21,7 +21,8 @@ pub fn put_olders<W: Write>(
     put_texts(alloc, "also-base", &texts, writer)
 }
 
-/// Writes a line for each setting, but none for a default limit or a time to send again that isn't set.
+/// Writes a line for each setting, but none for a default limit or a time to send again that isn't set, nor for traces
+/// that aren't passed on.
 pub fn put_settings<W: Write>(
     alloc: Global,
     settings: &Settings,
@@ -38,5 +39,9 @@ pub fn put_settings<W: Write>(
     } else {
         "stop-at-eof = false\n"
     };
-    Ok(put(writer, line.as_bytes())?)
+    put(writer, line.as_bytes())?;
+    if settings.trace_context {
+        put(writer, b"trace-context = true\n")?;
+    }
+    Ok(())
 }

@@ -423,6 +423,7 @@ impl<R: Wait + Clock + Net, H> ServiceState<'_, R, H> {
             place as usize,
             &self.outcomes,
             self.access_policy.shared_token(),
+            self.access_policy.traces,
         )
     }
 

@@ -23,6 +23,7 @@ nothing = record {
   default_limit_ms = None;
   retry_after_seconds = None;
   stop_at_eof = None;
+  trace_context = None;
 }
 
 -- the settings with the given values in place of theirs
@@ -45,4 +46,5 @@ applied g s = record {
   default_limit_ms = unwrap_or g.default_limit_ms s.default_limit_ms;
   retry_after_seconds = unwrap_or g.retry_after_seconds s.retry_after_seconds;
   stop_at_eof = unwrap_or g.stop_at_eof s.stop_at_eof;
+  trace_context = unwrap_or g.trace_context s.trace_context;
 }

@@ -29,6 +29,7 @@ usual = record {
   default_limit_ms = 0;
   retry_after_seconds = 0;
   stop_at_eof = false;
+  trace_context = false;
 }
 
 -- the value of a parameter

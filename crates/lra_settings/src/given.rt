@@ -27,6 +27,7 @@ pub struct Given {
     pub default_limit_ms: Option<u64>,
     pub retry_after_seconds: Option<u64>,
     pub stop_at_eof: Option<bool>,
+    pub trace_context: Option<bool>,
 }
 
 impl Given {
@@ -52,6 +53,7 @@ impl Given {
             default_limit_ms: None,
             retry_after_seconds: None,
             stop_at_eof: None,
+            trace_context: None,
         }
     }
 
@@ -102,6 +104,7 @@ impl Given {
                 .retry_after_seconds
                 .unwrap_or(settings.retry_after_seconds),
             stop_at_eof: self.stop_at_eof.unwrap_or(settings.stop_at_eof),
+            trace_context: self.trace_context.unwrap_or(settings.trace_context),
         }
     }
 }

@@ -6,7 +6,7 @@ ghost use Rattle.lra_settings.specs.Settings.{usual, value_of, is_limit_fit, is_
 use crate::parameter::Parameter;
 
 /// The settings of a service: how much it handles at once, its time-outs, when a folder's journals are rotated, the
-/// default limit of starts, and when refused requests may be sent again.
+/// default limit of starts, when refused requests may be sent again, and whether traces are passed on.
 #[derive(Clone, Copy, PartialEq, Eq)]
 pub struct Settings {
     /// The number of connections at once.
@@ -44,6 +44,8 @@ pub struct Settings {
     pub retry_after_seconds: u64,
     /// The mark that the service ends gently once standard input has ended.
     pub stop_at_eof: bool,
+    /// The mark that callbacks bear the trace of the request that ended their action.
+    pub trace_context: bool,
 }
 
 impl Settings {
@@ -69,6 +71,7 @@ impl Settings {
             default_limit_ms: 0,
             retry_after_seconds: 0,
             stop_at_eof: false,
+            trace_context: false,
         }
     }
 

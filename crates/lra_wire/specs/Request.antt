@@ -16,13 +16,14 @@ sole [] = None
 sole (value ∷ []) = Some value
 sole (value ∷ other ∷ values) = None
 
--- the values of fields that say which client asks, from where, and with what, of each that a head has exactly once (RFC
--- 9110, sections 7.2, 8.3 and 11.6.2; RFC 6454, section 7)
+-- the values of fields that say which client asks, from where, with what, and in which trace, of each that a head has
+-- exactly once (RFC 9110, sections 7.2, 8.3 and 11.6.2; RFC 6454, section 7; Trace Context, level 1, section 3.2)
 pub record Fields : Type 0 where
   pub authorization : Option (List ℕ)
   pub content_type : Option (List ℕ)
   pub host : Option (List ℕ)
   pub origin : Option (List ℕ)
+  pub traceparent : Option (List ℕ)
 
 -- these values among the fields of a head
 abbrev pub told_by : List (List ℕ × List ℕ) → Fields
@@ -31,6 +32,7 @@ told_by fields = record {
   content_type = sole (values_of (codes "content-type") fields);
   host = sole (values_of (codes "host") fields);
   origin = sole (values_of (codes "origin") fields);
+  traceparent = sole (values_of (codes "traceparent") fields);
 }
 
 -- the same values, as the code read them
@@ -40,6 +42,7 @@ what_fields read = record {
   content_type = option_map (λ value. value.items) read.content_type;
   host = option_map (λ value. value.items) read.host;
   origin = option_map (λ value. value.items) read.origin;
+  traceparent = option_map (λ value. value.items) read.traceparent;
 }
 
 -- a request without where it lies in memory

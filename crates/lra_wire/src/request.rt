@@ -58,7 +58,7 @@ pub struct RequestRead {
     /// of HTTP/1.0.
     pub close: bool,
     pub body: Vec<u8>,
-    /// Values of the fields that say which client asks, from where, and with what.
+    /// Values of the fields that say which client asks, from where, with what, and in which trace.
     pub fields: RequestFields,
 }
 

@@ -1,4 +1,4 @@
-//! The fields that say which client asks, from where, and with what.
+//! The fields that say which client asks, from where, with what, and in which trace.
 ghost use Rattle.std.specs.Prelude.{◌≡◌, ◌≤◌, length, map, option_map, All, IfOk};
 ghost use Rattle.httparse.specs.Spans.{IsHeaderWithin, header_bytes};
 ghost use Rattle.lra_wire.specs.Fields.{values_of};
@@ -20,6 +20,8 @@ pub struct RequestFields {
     pub host: Option<Vec<u8>>,
     /// `Origin` (RFC 6454, section 7).
     pub origin: Option<Vec<u8>>,
+    /// `traceparent` (Trace Context, level 1, section 3.2).
+    pub traceparent: Option<Vec<u8>>,
 }
 
 /// Copies a value, if there is one.
@@ -65,6 +67,7 @@ pub(crate) fn fields_at(
         content_type: sole(alloc, bytes, fields, b"content-type")?,
         host: sole(alloc, bytes, fields, b"host")?,
         origin: sole(alloc, bytes, fields, b"origin")?,
+        traceparent: sole(alloc, bytes, fields, b"traceparent")?,
     })
 }
 
@@ -81,6 +84,7 @@ impl RequestFields {
             content_type: None,
             host: None,
             origin: None,
+            traceparent: None,
         }
     }
 
@@ -93,6 +97,7 @@ impl RequestFields {
             content_type: copy_of(alloc, &self.content_type)?,
             host: copy_of(alloc, &self.host)?,
             origin: copy_of(alloc, &self.origin)?,
+            traceparent: copy_of(alloc, &self.traceparent)?,
         })
     }
 }

@@ -167,6 +167,7 @@ fn carry<R: Wait + Net + Clock>(
         0,
         &outcomes,
         None,
+        None,
     );
     match made {
         Ok(mut callbacks) => {
@@ -410,6 +411,7 @@ fn rested<R: Wait + Net + Clock>(rt: &R, alloc: Global, millis: Option<u64>) -> 
         &wakers,
         0,
         &outcomes,
+        None,
         None,
     );
     let Ok(mut callbacks) = made else {

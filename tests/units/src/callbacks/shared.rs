@@ -79,6 +79,7 @@ impl Ground {
             place,
             &self.outcomes,
             None,
+            None,
         );
         made.ok()
     }

@@ -93,6 +93,7 @@ fn asked_twice<R: Wait + Net + Clock>(rt: &R, alloc: Global, twice: Twice) -> Op
         0,
         &outcomes,
         None,
+        None,
     );
     let Ok(mut callbacks) = made else {
         return None;

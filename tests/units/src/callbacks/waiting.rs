@@ -76,6 +76,7 @@ where
         0,
         &outcomes,
         None,
+        None,
     );
     let Ok(mut callbacks) = made else {
         return None;

@@ -83,6 +83,7 @@ fn gives_its_token(alloc: Global) -> Option<bool> {
     let mut callback = super::forget("http://p.test/f");
     callback.extra = ExtraFields {
         token: Some(&token),
+        traceparent: None,
     };
     Some(is_written(alloc, &callback))
 }

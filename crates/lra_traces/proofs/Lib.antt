@@ -1,0 +1,3 @@
+mod Generations
+mod Numbers
+mod Texts

@@ -1,0 +1,3 @@
+pub mod Traceparents
+pub mod Tables
+pub mod inner
