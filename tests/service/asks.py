@@ -191,7 +191,7 @@ def pauses(asks):
 
 
 def check_late(what, late):
-    """None is early, by these milliseconds, and none is later than a busy machine makes it. It doesn't make all late."""
+    """None is early, by these milliseconds, nor later than a busy machine makes it. It doesn't make all late."""
     check(f"{what} {late} ms late", 0 <= min(late) <= SOON and max(late) <= 1000 * LATE)
 
 

@@ -39,8 +39,8 @@ def is_bare(what, reply):
 
 
 def memory_refused(service, counter, wanted):
-    """Refuses the allocations of starts, one in each. Those that are refused with 503 say what is wanted, and the others
-    nothing. Answers how many there were of each code."""
+    """Refuses the allocations of starts, one in each. Those refused with 503 say what is wanted, and the others nothing.
+    Answers how many there were of each code."""
     codes = Counter()
     with service, service.client() as client:
         client.start()
