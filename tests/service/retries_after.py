@@ -39,7 +39,7 @@ def is_bare(what, reply):
 
 
 def memory_refused(service, counter, wanted):
-    """Refuses the allocations of starts, one in each. Those refused with 503 say what is wanted, and the others nothing.
+    """Refuses the allocations of starts, one in each. Those refused with 503 say what is wanted, the others nothing.
     Answers how many there were of each code."""
     codes = Counter()
     with service, service.client() as client:
@@ -102,7 +102,10 @@ def being_archived(setting, options, wanted):
         is_bare("a start", client.call("POST", "/lra-coordinator"))
         service.allow()
         wait_until("it is archived", lambda: service.ended() == [folders.instance_of(actions[0])])
-        reply = client.call("GET", f"/lra-coordinator/{id_of(actions[0])}")
+        # Its file has left a moment before the threads know.
+        path = f"/lra-coordinator/{id_of(actions[0])}"
+        wait_until("it is unknown", lambda: client.call("GET", path).code != 503)
+        reply = client.call("GET", path)
         equal("once it is archived", (reply.code, said(reply)), (404, None))
 
 
