@@ -245,7 +245,8 @@ def test_the_unit_s_settings_are_the_usual_ones(setting):
     equal(
         "what isn't among them",
         options - named,
-        {"--stop-at-eof", "--default-limit", "--retry-after", "--drain", "--restored", "--config", "--check", "--help"}
+        {"--stop-at-eof", "--trace-context", "--default-limit", "--retry-after", "--drain", "--restored", "--config"}
+        | {"--check", "--help"}
         | {f"--{word}" for word in WORDS},
     )
 
