@@ -209,7 +209,7 @@ def words_of_help(setting):
     told, serving = setting.run("--help").output, setting.run("serve", "--help").output
     verbs, calls = (set(re.findall(rf"^lra ({word}) ", told, re.M)) for word in ("[a-z]+", "--[a-z]+"))
     options = set(re.findall(r"--[a-z][a-z-]*", serving))
-    equal("how many there are", (len(verbs), len(calls), len(options)), (9, 2, 36))
+    equal("how many there are", (len(verbs), len(calls), len(options)), (9, 2, 37))
     return verbs, calls, options
 
 
@@ -245,8 +245,8 @@ def test_the_unit_s_settings_are_the_usual_ones(setting):
     equal(
         "what isn't among them",
         options - named,
-        {"--stop-at-eof", "--trace-context", "--default-limit", "--retry-after", "--drain", "--restored", "--config"}
-        | {"--check", "--help"}
+        {"--chunked", "--stop-at-eof", "--trace-context", "--default-limit", "--retry-after", "--drain", "--restored"}
+        | {"--config", "--check", "--help"}
         | {f"--{word}" for word in WORDS},
     )
 

@@ -1,6 +1,7 @@
 -- The bytes that a client's stream gives and accepts.
-use Rattle.std.specs.Prelude.{◌≡◌, ℕ, ◌≤◌, Bool, List, [], length, take, Option, Some, None}
+use Rattle.std.specs.Prelude.{◌≡◌, ◌⊎◌, ℕ, ◌≤◌, Bool, List, [], ◌∷◌, ◌++◌, length, take, codes, Option, Some, None}
 use Rattle.std.specs.Io.KnownBytes.{Appends, Consumes, IsAtEnd, Keeps}
+use Rattle.lra_wire.specs.Coded.{AwaitsContinue}
 use Rattle.lra_steps.specs.History.{History, took, finished, went}
 use Rattle.lra_event_loop.specs.Waiting.{AllMayGo}
 use Rattle.lra_event_loop.specs.declared.client.Reading.{Reading}
@@ -37,3 +38,16 @@ abbrev pub ThrowsAway : Option (List ℕ) → Option (List ℕ) → History → 
 ThrowsAway before after old new None = Keeps before after × (new ≡ old)
 ThrowsAway before after old new (Some count) =
     (bytes : List ℕ) × Consumes before after bytes × (length bytes ≡ count) × (new ≡ old)
+
+-- the interim response after which a client sends the body of its request (RFC 9110, section 15.2.1)
+abbrev pub continue_text : List ℕ
+continue_text = codes "HTTP/1.1 100 Continue" ++ 13 ∷ 10 ∷ 13 ∷ 10 ∷ []
+
+-- the head of a request is in order and asks for that, no byte of its body has come, and no reply waits
+abbrev pub IsToContinue : History → Type 0
+IsToContinue h = AwaitsContinue h.kept × (h.out ≡ [])
+
+-- it was sent to a client that waits for it, or nothing was sent
+abbrev pub Continues : Option (List ℕ) → Option (List ℕ) → History → History → Type 0
+Continues before after old new = (new ≡ old)
+    × (Keeps before after ⊎ (IsToContinue old × Appends before after continue_text))

@@ -1,10 +1,10 @@
 //! A client: its stream, its connection, and how far journals have to be durable before its replies leave.
 
-ghost use Rattle.std.specs.Prelude.{◌≡◌, ◌↔◌, ◌≤◌, [], length, IfOk, OnErr, IsTrue};
+ghost use Rattle.std.specs.Prelude.{◌≡◌, ◌↔◌, ◌≤◌, [], length, IfOk, OnErr, IsTrue, true};
 ghost use Rattle.std.specs.Io.KnownBytes.{Keeps};
-ghost use Rattle.lra_steps.specs.History.{begun, room_of, took};
+ghost use Rattle.lra_steps.specs.History.{begun_by, room_of, took};
 ghost use Rattle.lra_event_loop.specs.Answered.{AnswersOf};
-ghost use Rattle.lra_event_loop.specs.Clients.{Reads, HandsOut, ThrowsAway};
+ghost use Rattle.lra_event_loop.specs.Clients.{Reads, HandsOut, ThrowsAway, Continues, IsToContinue};
 ghost use Rattle.lra_event_loop.specs.Waiting.{AllMayGo, AreNoted};
 
 use crate::answering::{Stage, answer_some};
@@ -22,6 +22,9 @@ use std::marker::PhantomData;
 use std::mem;
 use std::net::Shutdown;
 use std::sync::Wait;
+
+/// Interim response after which a client sends the body of its request (RFC 9110, section 15.2.1).
+const CONTINUE: &[u8] = b"HTTP/1.1 100 Continue\r\n\r\n";
 
 /// Reason why a client can't be served any more.
 #[derive(Clone, Copy, PartialEq, Eq)]
@@ -85,16 +88,22 @@ pub struct Client<S, G: SyncGroup, P: WhichBase> {
 }
 
 impl<S, G: SyncGroup, P: WhichBase> Client<S, G, P> {
-    /// Makes a client that has just connected.
+    /// Makes a client that has just connected. It may send chunked bodies, if that is said.
     #[tactic(auto, using(crate::proofs::Noted::noted_begun))]
-    pub fn new(alloc: Global, stream: S, instance: Instance, base: &Base) -> Client<S, G, P>
+    pub fn new(
+        alloc: Global,
+        stream: S,
+        instance: Instance,
+        base: &Base,
+        chunked: bool,
+    ) -> Client<S, G, P>
         requires { base.now ≡ P.base }
         ensures stream { result.stream ≡ stream }
-        ensures connection { result.connection ≡ begun instance base.now }
+        ensures connection { result.connection ≡ begun_by chunked instance base.now }
     {
         Client {
             stream,
-            connection: Connection::new(alloc, instance, base),
+            connection: Connection::with_chunked(alloc, instance, base, chunked),
             positions: Positions::none(),
             is_due: false,
             of: PhantomData,
@@ -139,6 +148,14 @@ impl<S, G: SyncGroup, P: WhichBase> Client<S, G, P> {
         ensures same { (self.new.stream ≡ self.old.stream) × (self.new.connection ≡ self.old.connection) }
     {
         mem::replace(&mut self.is_due, false)
+    }
+
+    /// Returns whether the client is to be sent `100 Continue`: it waits for that before it sends a body, and all
+    /// replies before have been handed out.
+    pub fn awaits_continue(&self) -> bool
+        ensures { result ≡ true → IsToContinue self.now.connection }
+    {
+        self.connection.awaits_continue() && self.connection.out().is_empty()
     }
 
     /// Returns whether all replies have been handed out.
@@ -253,6 +270,32 @@ impl<S: Write, G: SyncGroup, P: WhichBase> Client<S, G, P> {
                 Ok(WriteResult::Went)
             }
             Err(error) if error.kind() == ErrorKind::WouldBlock => Ok(WriteResult::Waits),
+            Err(_) => Err(ClientFault::Io),
+        }
+    }
+}
+
+impl<S: Write, G: SyncGroup, P: WhichBase> Client<S, G, P> {
+    /// Sends `100 Continue` to a client that waits for it, once. Where its stream accepts nothing for now, none is
+    /// sent: a client doesn't wait for it for ever.
+    #[tactic(auto, using(crate::proofs::Noted::noted_still, crate::proofs::Streams::whole_sent))]
+    pub fn send_continue(&mut self) -> Result<(), ClientFault>
+        ensures { IfOk result (λ done. Continues (S.contents self.old.stream) (S.contents self.new.stream)
+            self.old.connection self.new.connection) }
+    {
+        if !self.awaits_continue() {
+            return Ok(());
+        }
+        self.connection.note_continued();
+        match self.stream.write(CONTINUE) {
+            Ok(count) => {
+                if count == CONTINUE.len() {
+                    Ok(())
+                } else {
+                    Err(ClientFault::Io)
+                }
+            }
+            Err(error) if error.kind() == ErrorKind::WouldBlock => Ok(()),
             Err(_) => Err(ClientFault::Io),
         }
     }

@@ -224,7 +224,7 @@ impl<G: SyncGroup, P: WhichBase> ClientSlot<G, P> {
             .answer(loop_context.alloc, &loop_context.routes, handler, clock)?;
         self.goes = stage == Stage::Goes;
         self.has_ended = stage == Stage::Ended;
-        Ok(())
+        self.client.send_continue()
     }
 
     /// Returns whether an answer may have made something due for the callback workers, since the last call.
@@ -278,7 +278,7 @@ impl<G: SyncGroup, P: WhichBase> ClientSlot<G, P> {
             return self.close(now);
         }
         self.turn = request_turn(self.turn, self.client.room() < self.whole, times, now);
-        need_of(self.goes || self.may_read)
+        need_of(self.goes || self.may_read || self.client.awaits_continue())
     }
 }
 

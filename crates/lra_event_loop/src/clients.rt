@@ -29,6 +29,8 @@ const MOST_AGAIN: u64 = 16;
 pub(crate) struct Clients<G: SyncGroup, P: WhichBase> {
     alloc: Global,
     times: Times,
+    /// Mark that chunked bodies of requests are accepted.
+    chunked: bool,
     client_slots: Slab<ClientSlot<G, P>>,
     /// Ends of the clients' turns. Idle clients have limits: until then they have to begin a request, or to close their
     /// streams. The others have retries: until then they have to go on with a request, or with a reply. An end may be
@@ -45,11 +47,13 @@ pub(crate) struct Clients<G: SyncGroup, P: WhichBase> {
 }
 
 impl<G: SyncGroup, P: WhichBase> Clients<G, P> {
-    /// Makes a thread's clients: none yet, each of which will have these time limits.
-    pub(crate) fn new(alloc: Global, times: Times) -> Clients<G, P> {
+    /// Makes a thread's clients: none yet, each of which will have these time limits, and may send chunked bodies if
+    /// that is said.
+    pub(crate) fn new(alloc: Global, times: Times, chunked: bool) -> Clients<G, P> {
         Clients {
             alloc,
             times,
+            chunked,
             client_slots: Slab::new(alloc),
             agenda: Agenda::new(alloc),
             ready: Vec::new(alloc),
@@ -159,7 +163,13 @@ impl<G: SyncGroup, P: WhichBase> Clients<G, P> {
             drop(stream);
             return;
         }
-        let client_slot = ClientSlot::new(Client::new(self.alloc, stream, instance, base));
+        let client_slot = ClientSlot::new(Client::new(
+            self.alloc,
+            stream,
+            instance,
+            base,
+            self.chunked,
+        ));
         self.client_slots.insert_reserved(client_slot);
         self.place(key, now);
     }

@@ -63,6 +63,8 @@ pub struct EventLoop<'a, R, G: SyncGroup> {
     /// Largest number of clients.
     most: usize,
     times: Times,
+    /// Mark that chunked bodies of requests are accepted.
+    chunked: bool,
 }
 
 /// Poll that a thread waits with, and the state of its loop.
@@ -108,9 +110,10 @@ impl<'a, R: Wait + time::Clock, G: SyncGroup> EventLoop<'a, R, G> {
         wakers: &'a [Waker],
         most: usize,
         times: Times,
+        chunked: bool,
     ) -> EventLoop<'a, R, G>
         ensures { (result.group ≡ group.entry) × (result.accept_queue ≡ accept_queue.entry) × (result.most ≡ most) ×
-            (result.times ≡ times) }
+            (result.times ≡ times) × (result.chunked ≡ chunked) }
     {
         EventLoop {
             rt,
@@ -120,6 +123,7 @@ impl<'a, R: Wait + time::Clock, G: SyncGroup> EventLoop<'a, R, G> {
             wakers,
             most,
             times,
+            chunked,
         }
     }
 
@@ -358,7 +362,7 @@ impl<'a, R: Wait + time::Clock, G: SyncGroup> EventLoop<'a, R, G> {
             alloc: self.alloc,
             routes,
         };
-        let mut clients: Clients<G, P> = Clients::new(self.alloc, self.times);
+        let mut clients: Clients<G, P> = Clients::new(self.alloc, self.times, self.chunked);
         let end = self.go_on(&loop_context, &mut watch, &mut clients, handler, clock);
         drop(clients);
         drop(watch);

@@ -93,6 +93,8 @@ pub(crate) struct FolderState<'s, 'a, R: Wait, H, B> {
     most: usize,
     /// Time-outs of clients.
     times: Times,
+    /// Mark that chunked bodies of requests are accepted.
+    chunked: bool,
     /// Number of connection workers that haven't ended.
     answering: AtomicU64,
     /// Number of connection workers at first.
@@ -165,6 +167,7 @@ impl<'s, 'a: 's, R: Wait, H, B> FolderState<'s, 'a, R, H, B> {
             moment,
             most: most as usize,
             times: times_of(settings),
+            chunked: settings.chunked,
             answering: AtomicU64::new(workers as u64),
             workers: workers as u64,
             wake_relay,
@@ -518,6 +521,7 @@ impl<
             &self.wake_relay.wakers,
             self.most,
             self.times,
+            self.chunked,
         );
         let end = event_loop.run(&mut handler_stack, &mut self.clock());
         lose_worker(self.notifier, tallies, end);

@@ -123,6 +123,10 @@ fn note_other(
         config.given.trace_context = Some(truth_of(alloc, place, value)?);
         return Ok(());
     }
+    if key == "chunked" {
+        config.given.chunked = Some(truth_of(alloc, place, value)?);
+        return Ok(());
+    }
     match Word::from_name(key) {
         Some(word) if word.is_list() => note_texts(alloc, place, word, value, &mut config.said),
         Some(word) => {

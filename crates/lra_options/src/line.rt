@@ -158,6 +158,11 @@ fn with_flags(alloc: Global, command: Command<'_>) -> Result<Command<'_>, AllocE
         "stop-at-eof",
         "Ends gently once standard input has ended",
     );
+    let chunked = flag_arg(
+        alloc,
+        "chunked",
+        "Takes requests with chunked bodies, and answers Expect: 100-continue",
+    );
     let drain = flag_arg(
         alloc,
         "drain",
@@ -177,6 +182,7 @@ fn with_flags(alloc: Global, command: Command<'_>) -> Result<Command<'_>, AllocE
     command
         .arg(stop)?
         .arg(traces)?
+        .arg(chunked)?
         .arg(drain)?
         .arg(restored)?
         .arg(config)?
@@ -223,6 +229,9 @@ fn given_in(alloc: Global, matches: &ArgMatches<'_>) -> Result<Given, OptionsFau
     }
     if matches.get_flag("trace-context") {
         given.trace_context = Some(true);
+    }
+    if matches.get_flag("chunked") {
+        given.chunked = Some(true);
     }
     Ok(given)
 }

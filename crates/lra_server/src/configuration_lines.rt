@@ -21,8 +21,8 @@ pub fn put_olders<W: Write>(
     put_texts(alloc, "also-base", &texts, writer)
 }
 
-/// Writes a line for each setting, but none for a default limit or a time to send again that isn't set, nor for traces
-/// that aren't passed on.
+/// Writes a line for each setting, but none for a default limit or a time to send again that isn't set, for traces that
+/// aren't passed on, or for chunked bodies that aren't accepted.
 pub fn put_settings<W: Write>(
     alloc: Global,
     settings: &Settings,
@@ -42,6 +42,9 @@ pub fn put_settings<W: Write>(
     put(writer, line.as_bytes())?;
     if settings.trace_context {
         put(writer, b"trace-context = true\n")?;
+    }
+    if settings.chunked {
+        put(writer, b"chunked = true\n")?;
     }
     Ok(())
 }

@@ -63,6 +63,8 @@ pub(crate) struct ServiceState<'a, R, H> {
     most: usize,
     /// Time-outs of a client.
     times: Times,
+    /// Mark that chunked bodies of requests are accepted.
+    chunked: bool,
     /// Number of connection workers that haven't ended.
     answering: AtomicU64,
     /// Number of clerks that work.
@@ -125,6 +127,7 @@ impl<'a, R: Wait, H> ServiceState<'a, R, H> {
             moment,
             most: most as usize,
             times: times_of(settings),
+            chunked: settings.chunked,
             answering: AtomicU64::new(workers as u64),
             working: AtomicU64::new(0),
             callback_workers: AtomicU64::new(workers as u64),
@@ -561,6 +564,7 @@ impl<
             self.wakers.as_slice(),
             self.most,
             self.times,
+            self.chunked,
         );
         let end = event_loop.run(&mut handler_stack, &mut self.clock());
         lose_worker(self.notifier, tallies, end);

@@ -24,6 +24,7 @@ nothing = record {
   retry_after_seconds = None;
   stop_at_eof = None;
   trace_context = None;
+  chunked = None;
 }
 
 -- the settings with the given values in place of theirs
@@ -47,4 +48,5 @@ applied g s = record {
   retry_after_seconds = unwrap_or g.retry_after_seconds s.retry_after_seconds;
   stop_at_eof = unwrap_or g.stop_at_eof s.stop_at_eof;
   trace_context = unwrap_or g.trace_context s.trace_context;
+  chunked = unwrap_or g.chunked s.chunked;
 }

@@ -30,6 +30,7 @@ usual = record {
   retry_after_seconds = 0;
   stop_at_eof = false;
   trace_context = false;
+  chunked = false;
 }
 
 -- the value of a parameter

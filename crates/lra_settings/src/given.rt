@@ -28,6 +28,7 @@ pub struct Given {
     pub retry_after_seconds: Option<u64>,
     pub stop_at_eof: Option<bool>,
     pub trace_context: Option<bool>,
+    pub chunked: Option<bool>,
 }
 
 impl Given {
@@ -54,6 +55,7 @@ impl Given {
             retry_after_seconds: None,
             stop_at_eof: None,
             trace_context: None,
+            chunked: None,
         }
     }
 
@@ -105,6 +107,7 @@ impl Given {
                 .unwrap_or(settings.retry_after_seconds),
             stop_at_eof: self.stop_at_eof.unwrap_or(settings.stop_at_eof),
             trace_context: self.trace_context.unwrap_or(settings.trace_context),
+            chunked: self.chunked.unwrap_or(settings.chunked),
         }
     }
 }

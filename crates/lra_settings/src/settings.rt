@@ -46,6 +46,8 @@ pub struct Settings {
     pub stop_at_eof: bool,
     /// The mark that callbacks bear the trace of the request that ended their action.
     pub trace_context: bool,
+    /// The mark that chunked bodies of requests are accepted, and `100 Continue` is sent.
+    pub chunked: bool,
 }
 
 impl Settings {
@@ -72,6 +74,7 @@ impl Settings {
             retry_after_seconds: 0,
             stop_at_eof: false,
             trace_context: false,
+            chunked: false,
         }
     }
 

@@ -8,31 +8,70 @@ use Rattle.std.proofs.lemmas.Bool.Decides.{nat_tests}
 use Rattle.std.specs.Option.{option_map}
 use Rattle.std.proofs.lemmas.List.{take-append-drop, flat_map_more}
 use Rattle.lra_wire.specs.declared.fault.WireFault.{WireFault}
-use Rattle.lra_wire.specs.declared.fault.WireFault.TheVariants.{BadHead, Chunked, BadLength, TooLarge, Cut, Io, Memory}
-use Rattle.lra_wire.specs.Fronts.{RefusesFront}
 use Rattle.lra_wire.specs.declared.request.RequestRead.{RequestRead}
-use Rattle.lra_wire.specs.Request.{Request, IsRequest, RefusesRequest, request_of}
+use Rattle.lra_wire.specs.Request.{Request, request_of}
+use Rattle.lra_wire.specs.Coded.{IsRequestBy, RefusesRequestBy, most_of}
+use Rattle.lra_wire.proofs.CodedLemmas.{refuses_by}
 use Rattle.lra_front.specs.declared.stream.StreamEnd.{StreamEnd}
 use Rattle.lra_front.specs.declared.stream.StreamEnd.TheVariants.{Done, Refused, WriteFault}
 use Rattle.lra_front.specs.Replies.{reply_bytes}
 use Rattle.lra_front.specs.Streams.{is_head, closes_after}
-use Rattle.lra_front.specs.Transcripts.{Spells, IsFront}
-use Rattle.lra_steps.specs.History.{History, IsServed, IsLasting, IsOpenSo, Replies, StandsAt, Turn, plain, replies}
-use Rattle.lra_steps.specs.History.{room_of, is_last, turn_reply, fault_reply, end_reply, took, finished, ordered}
+use Rattle.lra_front.specs.Transcripts.{IsFront}
+use Rattle.lra_steps.specs.History.{History, IsServed, IsLasting, IsOpenSo, Replies, SpellsBy, StandsAt, Turn}
+use Rattle.lra_steps.specs.History.{plain, replies, room_of, is_last, turn_reply, fault_reply, end_reply, took}
+use Rattle.lra_steps.specs.History.{begun_by, finished, ordered}
 use Rattle.lra_steps.specs.History.{answered, lost, ended_by, went}
 use Rattle.lra_steps.specs.Steps.{IsFree, Ends}
+use Rattle.lra_steps.specs.declared.connection.Reply.{Reply}
 use Rattle.lra_steps.specs.inner.Ends.{EndsWithout}
+use Rattle.lra_steps.specs.inner.Fields.{backs, fronts, turn_of}
 use Rattle.lra_steps.proofs.TurnLemmas.{Spells-more, StandsAt-more, Spells-next, replies-push, stays-push, closes-push}
 use Rattle.lra_steps.proofs.TurnLemmas.{before-push, reply_some}
+
+-- ---- nothing has come
+
+served_fresh : (chunked : Bool) (instance : ℕ) (base : List ℕ) → IsServed (begun_by chunked instance base)
+served_fresh chunked instance base = record {
+  behind = [];
+  spelled = refl;
+  standing = refl;
+  open_so = tt;
+  replied = refl;
+  bound = omega arith;
+}
+
+pub served_first : (chunked : Bool) (instance : ℕ) (base kept out : List ℕ) (reads writes : List (List ℕ × ℕ))
+    (turns : List (RequestRead × Reply)) → kept ≡ [] → out ≡ [] → reads ≡ [] → turns ≡ [] → writes ≡ []
+    → IsServed (record {
+      instance = instance;
+      base = base;
+      chunked = chunked;
+      taken = flat_map (λ t. t) (backs reads);
+      kept = kept;
+      closed = false;
+      turns = map turn_of turns;
+      stands = None;
+      ended = None;
+      sent = flat_map (λ t. t) (fronts writes);
+      out = out;
+    })
+served_first chunked instance base kept out reads writes turns k o r t w =
+    subst IsServed (sym (λ i. record (begun_by chunked instance base) {
+      taken = flat_map (λ t. t) (backs (r i));
+      kept = k i;
+      turns = map turn_of (t i);
+      sent = flat_map (λ t. t) (fronts (w i));
+      out = o i;
+    })) (served_fresh chunked instance base)
 
 -- ---- bytes come
 
 -- there is room while the stream goes on
-room_open : (closed : Bool) (ended : Option StreamEnd) (n m : ℕ) → 0 < m → m
-    ≤ cond (closed || is_some ended) 0 (73728 - n) → (ended ≡ None) × (m + n ≤ 73728)
-room_open true ended n m some h = absurd (omega (arith, some, h))
-room_open false (Some end) n m some h = absurd (omega (arith, some, h))
-room_open false None n m some h = (refl, omega (arith, some, h))
+room_open : (most : ℕ) (closed : Bool) (ended : Option StreamEnd) (n m : ℕ) → 0 < m → m
+    ≤ cond (closed || is_some ended) 0 (most - n) → (ended ≡ None) × (m + n ≤ most)
+room_open most true ended n m some h = absurd (omega (arith, some, h))
+room_open most false (Some end) n m some h = absurd (omega (arith, some, h))
+room_open most false None n m some h = (refl, omega (arith, some, h))
 
 open_took : (o : Option StreamEnd) (h : History) (more : List ℕ) → o ≡ None → IsOpenSo o h → IsOpenSo o (took h more)
 open_took None h more e s = s
@@ -46,11 +85,11 @@ pub served_took : (h : History) (more : List ℕ) → IsServed h → length more
 served_took h [] s fits =
     subst IsServed (λ i. record h { taken = sym (append-nil h.taken) i; kept = sym (append-nil h.kept) i }) s
 served_took h (b ∷ more) s fits =
-    let room = room_open h.closed h.ended (length h.kept) (length (b ∷ more)) (omega arith) fits in
+    let room = room_open (most_of h.chunked) h.closed h.ended (length h.kept) (length (b ∷ more)) (omega arith) fits in
     record {
       behind = s.behind ++ b ∷ more;
-      spelled = Spells-more h.taken (map plain h.turns) s.behind (b ∷ more) s.spelled;
-      standing = StandsAt-more h.stands s.behind h.kept (b ∷ more) s.standing;
+      spelled = Spells-more h.chunked h.taken (map plain h.turns) s.behind (b ∷ more) s.spelled;
+      standing = StandsAt-more h.chunked h.stands s.behind h.kept (b ∷ more) s.standing;
       open_so = open_took h.ended h (b ∷ more) room.0 s.open_so;
       replied = replied_took h.ended h (b ∷ more) room.0 s.replied;
       bound = omega (arith, room.1, length-append h.kept (b ∷ more));
@@ -91,13 +130,13 @@ replied_ordered None h request rest e r = r
 replied_ordered (Some end) h request rest e r = absurd cc
 
 -- where no request stands, the requests that were answered are all that were read
-pub all_read : (h : History) → IsServed h → h.stands ≡ None → Spells h.taken (map plain h.turns) h.kept
+pub all_read : (h : History) → IsServed h → h.stands ≡ None → SpellsBy h.chunked h.taken (map plain h.turns) h.kept
 all_read h s none = let here : s.behind ≡ h.kept = subst
-    (λ (o : Option Request). StandsAt o s.behind h.kept) none s.standing in
-    subst (Spells h.taken (map plain h.turns)) here s.spelled
+    (λ (o : Option Request). StandsAt h.chunked o s.behind h.kept) none s.standing in
+    subst (SpellsBy h.chunked h.taken (map plain h.turns)) here s.spelled
 
 pub served_ordered : (h : History) (request : Request) (n : ℕ) → IsServed h → IsFree h
-    → IsRequest h.kept request (drop n h.kept) → IsServed (ordered h request (drop n h.kept))
+    → IsRequestBy h.chunked h.kept request (drop n h.kept) → IsServed (ordered h request (drop n h.kept))
 served_ordered h request n s free is = record {
   behind = h.kept;
   spelled = all_read h s free.1;
@@ -140,8 +179,8 @@ served_answered h turn s stands =
     let so : IsOpenSo None h = subst (λ (o : Option StreamEnd). IsOpenSo o h) none s.open_so in
     record {
       behind = h.kept;
-      spelled = Spells-next h.taken h.turns s.behind turn h.kept s.spelled
-          (subst (λ (o : Option Request). StandsAt o s.behind h.kept) stands s.standing);
+      spelled = Spells-next h.chunked h.taken h.turns s.behind turn h.kept s.spelled
+          (subst (λ (o : Option Request). StandsAt h.chunked o s.behind h.kept) stands s.standing);
       standing = refl;
       open_so = open_answered (closes_after (is_last h) turn.request) h turn refl so;
       replied = replied_answered (closes_after (is_last h) turn.request) h turn refl so
@@ -168,8 +207,8 @@ served_lost h turn s stands =
     let so : IsOpenSo None h = subst (λ (o : Option StreamEnd). IsOpenSo o h) none s.open_so in
     record {
       behind = h.kept;
-      spelled = Spells-next h.taken h.turns s.behind turn h.kept s.spelled
-          (subst (λ (o : Option Request). StandsAt o s.behind h.kept) stands s.standing);
+      spelled = Spells-next h.chunked h.taken h.turns s.behind turn h.kept s.spelled
+          (subst (λ (o : Option Request). StandsAt h.chunked o s.behind h.kept) stands s.standing);
       standing = refl;
       open_so = (refl, inl tt);
       replied = lost_front h turn so (subst (λ (o : Option StreamEnd). Replies o h) none s.replied);
@@ -177,15 +216,6 @@ served_lost h turn s stands =
     }
 
 -- ---- the connection ends
-
-pub refuses : (bytes : List ℕ) (fault : WireFault) → RefusesFront bytes fault → RefusesRequest bytes fault
-refuses bytes BadHead h = h
-refuses bytes Chunked h = h
-refuses bytes BadLength h = h
-refuses bytes TooLarge h = h
-refuses bytes Memory h = h
-refuses bytes Cut h = absurd h
-refuses bytes Io h = absurd h
 
 ends_after : (end : StreamEnd) (h : History) → IsOpenSo None h → h.sent ++ h.out ≡ replies h.base 999 h.turns
     → Ends end h → Replies (Some end) (ended_by h end)
@@ -197,12 +227,12 @@ ends_after (Refused fault) h s r e = (
   s,
 )
   where
-    why : Ends (Refused fault) h → RefusesRequest h.kept fault
-    why (inl f) = refuses h.kept fault f.1
-    why (inr f) = subst (λ (f : WireFault). RefusesRequest h.kept f) (sym f.1) f.2
+    why : Ends (Refused fault) h → RefusesRequestBy h.chunked h.kept fault
+    why (inl f) = refuses_by h.chunked h.kept fault f.1
+    why (inr f) = subst (λ (f : WireFault). RefusesRequestBy h.chunked h.kept f) (sym f.1) f.2
 ends_after WriteFault h s r e = absurd e
 
-lasting : (end : StreamEnd) (h : History) → Ends end h → IsLasting end h.turns h.kept ⊎ IsTrue h.closed
+lasting : (end : StreamEnd) (h : History) → Ends end h → IsLasting h.chunked end h.turns h.kept ⊎ IsTrue h.closed
 lasting Done h e = inr e.0
 lasting (Refused fault) h (inl e) = inl e.1
 lasting (Refused fault) h (inr e) = inr e.0
@@ -292,13 +322,13 @@ pub ended_is : (h : History) (end : StreamEnd) (out : List ℕ) → out ≡ h.ou
     → record h { out = out; ended = Some end } ≡ ended_by h end
 ended_is h end out o = λ i. record h { out = o i; ended = Some end }
 
-pub ends_without : (h : History) (end : StreamEnd) → EndsWithout h.closed h.kept (Some end) → Ends end h
+pub ends_without : (h : History) (end : StreamEnd) → EndsWithout h.chunked h.closed h.kept (Some end) → Ends end h
 ends_without h Done e = e
 ends_without h (Refused fault) e = inr e
 ends_without h WriteFault e = absurd e
 
 -- and nothing is replied where no more bytes come
-pub quiet_end : (h : History) (end : StreamEnd) → EndsWithout h.closed h.kept (Some end) → h.out ≡ h.out
+pub quiet_end : (h : History) (end : StreamEnd) → EndsWithout h.chunked h.closed h.kept (Some end) → h.out ≡ h.out
     ++ end_reply h.instance h.base end
 quiet_end h Done e = sym (append-nil h.out)
 quiet_end h (Refused fault) e = sym (append-nil h.out) ∙ ap (λ f. h.out ++ end_reply h.instance h.base (Refused f))

@@ -3,12 +3,12 @@ use Rattle.std.proofs.Common.{◌≡◌, ℕ, ◌+◌, ◌-◌, ◌<◌, List, [
 use Rattle.std.proofs.Common.{Option, Some, None, Result, Ok, Err, inl, inr, refl, sym, ap, ◌∙◌, subst, arith}
 use Rattle.std.proofs.Common.{append_assoc}
 use Rattle.std.specs.declared.alloc.AllocError.{AllocError}
-use Rattle.std.specs.Prelude.{◌⊎◌, Bool, IfOk, IfSome, IsTrue, IsFalse}
+use Rattle.std.specs.Prelude.{◌⊎◌, Bool, false, IfOk, IfSome, IsTrue, IsFalse}
 use Rattle.std.proofs.lemmas.Bool.{both_ways}
 use Rattle.std.proofs.lemmas.List.{take-append-drop, take-take, drop-take, take_more, append-nil}
 use Rattle.std.proofs.lemmas.List.Concat.{flat_map-append}
 use Rattle.lra_wire.specs.Request.{Request}
-use Rattle.lra_wire.proofs.FrontLemmas.{refused_more, request_takes}
+use Rattle.lra_wire.proofs.CodedLemmas.{refused_more_by, request_takes_by, refuses_by}
 use Rattle.lra_commands.specs.declared.command.Told.{Told}
 use Rattle.lra_commands.specs.declared.counter.Order.{Order}
 use Rattle.lra_commands.specs.declared.counter.CounterFault.{CounterFault}
@@ -18,14 +18,14 @@ use Rattle.lra_front.specs.declared.stream.StreamEnd.TheVariants.{Done, Refused,
 use Rattle.lra_front.specs.Transcripts.{Chain as FrontChain, EndsAfter as FrontEnds, Spells, IsFront}
 use Rattle.lra_steps.specs.declared.connection.Step.TheVariants.{RequestReady, Ended}
 use Rattle.lra_steps.specs.declared.handler.Answered.{Answered}
-use Rattle.lra_steps.specs.History.{History, IsServed, IsLasting, IsOpenSo, Replies, EndsAfter, Turn, plain}
+use Rattle.lra_steps.specs.History.{History, IsServed, IsLasting, IsOpenSo, Replies, EndsAfter, SpellsBy, Turn, plain}
 use Rattle.lra_steps.specs.History.{fault_reply, ordered, took, finished, went}
 use Rattle.lra_steps.specs.Steps.{StepsTo, Tells}
 use Rattle.lra_steps.specs.Pieces.{Answers, AnswersAlone, Chain, Serves, ServesBytes}
 use Rattle.lra_steps.specs.inner.Alone.{responds_of, setting_stays}
 use Rattle.lra_steps.specs.inner.Feeding.{Follows, IsFresh}
-use Rattle.lra_steps.proofs.TurnLemmas.{AreOf, Spells-more, replies_plain}
-use Rattle.lra_steps.proofs.HistoryLemmas.{all_read, refuses}
+use Rattle.lra_steps.proofs.TurnLemmas.{AreOf, Spells-more, spells_plain, replies_plain}
+use Rattle.lra_steps.proofs.HistoryLemmas.{all_read}
 
 -- ---- pieces
 
@@ -81,23 +81,23 @@ none_left (x ∷ xs) = none_left xs
 -- ---- the end
 
 -- the end is that of all bytes, where more follow
-ends_more : (end : StreamEnd) (h : History) (back : List ℕ) → IsLasting end h.turns h.kept ⊎ IsTrue h.closed
+ends_more : (end : StreamEnd) (h : History) (back : List ℕ) → IsLasting h.chunked end h.turns h.kept ⊎ IsTrue h.closed
     → IsFalse h.closed ⊎ (back ≡ []) → Replies (Some end) h
-    → EndsAfter h.instance h.base h.turns (h.kept ++ back) (h.sent ++ h.out) end
+    → EndsAfter h.chunked h.instance h.base h.turns (h.kept ++ back) (h.sent ++ h.out) end
 ends_more WriteFault h back why over r = r
 ends_more Done h back why (inr none) r =
-    subst (λ (xs : List ℕ). EndsAfter h.instance h.base h.turns xs (h.sent ++ h.out) Done)
+    subst (λ (xs : List ℕ). EndsAfter h.chunked h.instance h.base h.turns xs (h.sent ++ h.out) Done)
     (sym (ap (λ xs. h.kept ++ xs) none ∙ append-nil h.kept)) r
 ends_more (Refused fault) h back why (inr none) r =
-    subst (λ (xs : List ℕ). EndsAfter h.instance h.base h.turns xs (h.sent ++ h.out) (Refused fault))
+    subst (λ (xs : List ℕ). EndsAfter h.chunked h.instance h.base h.turns xs (h.sent ++ h.out) (Refused fault))
     (sym (ap (λ xs. h.kept ++ xs) none ∙ append-nil h.kept)) r
 ends_more Done h back (inr shut) (inl goes) r = absurd (both_ways h.closed goes shut)
 ends_more (Refused fault) h back (inr shut) (inl goes) r = absurd (both_ways h.closed goes shut)
 ends_more Done h back (inl stays) (inl goes) r = (r.0, inr stays)
 ends_more (Refused fault) h back (inl stays) (inl goes) r = (
   r.0,
-  refuses (h.kept ++ back) fault
-      (refused_more h.kept back fault stays),
+  refuses_by h.chunked (h.kept ++ back) fault
+      (refused_more_by h.chunked h.kept back fault stays),
   r.2,
 )
 
@@ -111,6 +111,7 @@ record Turned (h new : History) (turn : Turn) : Type 0 where
   kept : new.kept ≡ h.kept
   sent : new.sent ≡ h.sent
   closed : new.closed ≡ h.closed
+  chunked : new.chunked ≡ h.chunked
 
 turned : (h new : History) (turn : Turn) (result : Result (Unit {0}) AllocError) → Tells result h new turn
     → Turned h new turn
@@ -125,6 +126,7 @@ turned h new turn (Ok u) e = subst (λ (g : History). Turned h g turn) (sym e)
       sent = refl;
       closed =
           refl;
+      chunked = refl;
     })
 turned h new turn (Err f) e = subst (λ (g : History). Turned h g turn) (sym e)
     (record {
@@ -137,6 +139,7 @@ turned h new turn (Err f) e = subst (λ (g : History). Turned h g turn) (sym e)
       sent = refl;
       closed =
           refl;
+      chunked = refl;
     })
 
 -- ---- answers
@@ -215,6 +218,7 @@ module _ (S K : Type 0) (base_of : S → List ℕ) (responds : S → ℕ → Req
                 (chain-push v w x k l m h.turns turn f.chain a.clocked a.given);
             base = t.base ∙ f.base ∙ sym same;
             none = t.none;
+            plain = t.chunked ∙ f.plain;
           };
           same = same;
           none = t.none;
@@ -223,24 +227,24 @@ module _ (S K : Type 0) (base_of : S → List ℕ) (responds : S → ℕ → Req
           taken = t.taken;
           sent = t.sent;
           closed = t.closed;
-          shorter = omega (arith, request_takes h.kept request s.1 s.3, ap length t.kept);
+          shorter = omega (arith, request_takes_by h.chunked h.kept request s.1 s.3, ap length t.kept);
         }
 
   -- bytes came, or were sent
   pub follows_took : (v w : S) (k l : K) (h : History) (more : List ℕ) (new : History) → new ≡ took h more
       → Follows base_of responds tells v k h w l → Follows base_of responds tells v k new w l
   follows_took v w k l h more new e f = subst (λ (g : History). Follows base_of responds tells v k g w l) (sym e)
-      (record { chain = f.chain; base = f.base; none = f.none })
+      (record { chain = f.chain; base = f.base; none = f.none; plain = f.plain })
 
   pub follows_went : (v w : S) (k l : K) (h : History) (count : ℕ) (new : History) → new ≡ went h count
       → Follows base_of responds tells v k h w l → Follows base_of responds tells v k new w l
   follows_went v w k l h count new e f = subst (λ (g : History). Follows base_of responds tells v k g w l) (sym e)
-      (record { chain = f.chain; base = f.base; none = f.none })
+      (record { chain = f.chain; base = f.base; none = f.none; plain = f.plain })
 
   pub follows_finished : (v w : S) (k l : K) (h new : History) → new ≡ finished h
       → Follows base_of responds tells v k h w l → Follows base_of responds tells v k new w l
   follows_finished v w k l h new e f = subst (λ (g : History). Follows base_of responds tells v k g w l) (sym e)
-      (record { chain = f.chain; base = f.base; none = f.none })
+      (record { chain = f.chain; base = f.base; none = f.none; plain = f.plain })
 
   -- how the connection ended, and what stays as it was
   pub record Finishes (end : StreamEnd) (h new : History) (w : S) (l : K) : Type 0 where
@@ -267,7 +271,7 @@ module _ (S K : Type 0) (base_of : S → List ℕ) (responds : S → ℕ → Req
             refl;
       })
   finishes end h new w l (inr s) = subst (λ (g : History). Finishes end h g w l) (sym s.2) (record {
-    follows = λ v k f. record { chain = f.chain; base = f.base; none = f.none };
+    follows = λ v k f. record { chain = f.chain; base = f.base; none = f.none; plain = f.plain };
     ended = refl;
     instance = refl;
     base = refl;
@@ -283,6 +287,7 @@ module _ (S K : Type 0) (base_of : S → List ℕ) (responds : S → ℕ → Req
         (refl, refl);
     base = f.base;
     none = f.none;
+    plain = f.plain;
   }
 
   -- All that was answered and sent is what serving all bytes does.
@@ -295,26 +300,31 @@ module _ (S K : Type 0) (base_of : S → List ℕ) (responds : S → ℕ → Req
       let r : Replies (Some end) h = subst (λ (o : Option StreamEnd). Replies o h) ended s.replied in
       let so : IsOpenSo (Some end) h = subst (λ (o : Option StreamEnd). IsOpenSo o h) ended s.open_so in
       let rest = h.kept ++ back in
-      let mine : EndsAfter h.instance h.base h.turns rest h.sent end =
-      subst (λ (xs : List ℕ). EndsAfter h.instance h.base h.turns rest xs end)
+      let wide : EndsAfter h.chunked h.instance h.base h.turns rest h.sent end =
+      subst (λ (xs : List ℕ). EndsAfter h.chunked h.instance h.base h.turns rest xs end)
       (ap (λ xs. h.sent ++ xs) none ∙ append-nil h.sent) (ends_more end h back so.1 over r) in
+      let mine : EndsAfter false h.instance h.base h.turns rest h.sent end =
+      subst (λ (b : Bool). EndsAfter b h.instance h.base h.turns rest h.sent end) f.plain wide in
+      let read : SpellsBy false h.taken (map plain h.turns) h.kept =
+      subst (λ (b : Bool). SpellsBy b h.taken (map plain h.turns) h.kept) f.plain (all_read h s f.none) in
       record {
         turns = h.turns;
         rest = rest;
         out = h.sent;
         spelled = subst (λ (xs : List ℕ). Spells xs (map plain h.turns) rest) whole
-            (Spells-more h.taken (map plain h.turns) h.kept back (all_read h s f.none));
+            (spells_plain (h.taken ++ back) (map plain h.turns) rest
+            (Spells-more false h.taken (map plain h.turns) h.kept back read));
         chain = f.chain;
         written = written;
-        ends = subst (λ (q : List ℕ). EndsAfter instance q h.turns rest h.sent end) b
-            (subst (λ (j : ℕ). EndsAfter j h.base h.turns rest h.sent end) i mine);
+        ends = subst (λ (q : List ℕ). EndsAfter false instance q h.turns rest h.sent end) b
+            (subst (λ (j : ℕ). EndsAfter false j h.base h.turns rest h.sent end) i mine);
       }
 
 -- ---- a counter that answers by itself
 
 -- how a stream ends, as for the HTTP interface
 ends_plain : (c : Setting) (end : StreamEnd) (turns : List Turn) (rest out : List ℕ) → AreOf c.instance turns
-    → EndsAfter c.instance c.base turns rest out end
+    → EndsAfter false c.instance c.base turns rest out end
     → FrontEnds c 999 (map plain turns) rest out end
 ends_plain c Done turns rest out of r = (r.0 ∙ replies_plain c 999 turns of, r.1)
 ends_plain c (Refused fault) turns rest out of r = (

@@ -4,8 +4,9 @@ use Rattle.std.proofs.Common.{ap, sym, ◌∙◌, subst, arith, append_assoc, ap
 use Rattle.std.specs.Prelude.{nat_le, ⊤}
 use Rattle.std.proofs.lemmas.Bool.Decides.{nat_tests}
 use Rattle.std.proofs.lemmas.List.{map-append}
-use Rattle.lra_wire.specs.Request.{Request, IsRequest}
-use Rattle.lra_wire.proofs.FrontLemmas.{request_more}
+use Rattle.lra_wire.specs.Request.{Request}
+use Rattle.lra_wire.specs.Coded.{IsRequestBy}
+use Rattle.lra_wire.proofs.CodedLemmas.{request_more_by}
 use Rattle.lra_commands.specs.Counters.{Setting}
 use Rattle.lra_front.specs.declared.answer.Answer.{Answer}
 use Rattle.lra_front.specs.Replies.{reply_bytes}
@@ -13,7 +14,7 @@ use Rattle.lra_front.specs.Streams.{closes_after, is_head}
 use Rattle.lra_front.specs.Transcripts.{Turn as FrontTurn, Spells, StaysOpen, StaysOpenBefore, ClosesLast}
 use Rattle.lra_front.specs.Transcripts.{replies as front_replies, turn_text}
 use Rattle.lra_front.proofs.Transcribed.{closes_more, before_more}
-use Rattle.lra_steps.specs.History.{StandsAt, Turn, plain, turn_reply, replies}
+use Rattle.lra_steps.specs.History.{SpellsBy, StandsAt, Turn, plain, turn_reply, replies}
 
 -- ---- one coordinator
 
@@ -24,37 +25,44 @@ plain-push turns turn = sym (map-append plain turns (turn ∷ []))
 -- ---- what is spelled
 
 -- more bytes come
-pub Spells-more : (bytes : List ℕ) (turns : List FrontTurn) (rest more : List ℕ) → Spells bytes turns rest
-    → Spells (bytes ++ more) turns (rest ++ more)
-Spells-more bytes [] rest more h = ap (λ xs. xs ++ more) h
-Spells-more bytes (turn ∷ turns) rest more h = (
+pub Spells-more : (chunked : Bool) (bytes : List ℕ) (turns : List FrontTurn) (rest more : List ℕ)
+    → SpellsBy chunked bytes turns rest → SpellsBy chunked (bytes ++ more) turns (rest ++ more)
+Spells-more chunked bytes [] rest more h = ap (λ xs. xs ++ more) h
+Spells-more chunked bytes (turn ∷ turns) rest more h = (
   h.0 ++ more,
-  request_more bytes more turn.request h.0 h.1,
-  Spells-more h.0 turns rest more h.2,
+  request_more_by chunked bytes more turn.request h.0 h.1,
+  Spells-more chunked h.0 turns rest more h.2,
 )
 
-pub StandsAt-more : (stands : Option Request) (bytes rest more : List ℕ) → StandsAt stands bytes rest
-    → StandsAt stands (bytes ++ more) (rest ++ more)
-StandsAt-more None bytes rest more h = ap (λ xs. xs ++ more) h
-StandsAt-more (Some request) bytes rest more h = request_more bytes more request rest h
+pub StandsAt-more : (chunked : Bool) (stands : Option Request) (bytes rest more : List ℕ)
+    → StandsAt chunked stands bytes rest → StandsAt chunked stands (bytes ++ more) (rest ++ more)
+StandsAt-more chunked None bytes rest more h = ap (λ xs. xs ++ more) h
+StandsAt-more chunked (Some request) bytes rest more h = request_more_by chunked bytes more request rest h
+
+-- where chunked bodies are refused, the requests are those of the HTTP interface
+pub spells_plain : (bytes : List ℕ) (turns : List FrontTurn) (rest : List ℕ) → SpellsBy false bytes turns rest
+    → Spells bytes turns rest
+spells_plain bytes [] rest h = h
+spells_plain bytes (turn ∷ turns) rest h = (h.0, h.1, spells_plain h.0 turns rest h.2)
 
 -- the first request of the rest is one more
-front-next : (bytes : List ℕ) (turns : List FrontTurn) (rest : List ℕ) (turn : FrontTurn) (after : List ℕ)
-    → Spells bytes turns rest → IsRequest rest turn.request after
-    → Spells bytes (turns ++ turn ∷ []) after
-front-next bytes [] rest turn after h r = (
+front-next : (chunked : Bool) (bytes : List ℕ) (turns : List FrontTurn) (rest : List ℕ) (turn : FrontTurn)
+    (after : List ℕ) → SpellsBy chunked bytes turns rest → IsRequestBy chunked rest turn.request after
+    → SpellsBy chunked bytes (turns ++ turn ∷ []) after
+front-next chunked bytes [] rest turn after h r = (
   after,
-  subst (λ (xs : List ℕ). IsRequest xs turn.request after) (sym h) r,
+  subst (λ (xs : List ℕ). IsRequestBy chunked xs turn.request after) (sym h) r,
   refl,
 )
-front-next bytes (first ∷ turns) rest turn after h r = (h.0, h.1, front-next h.0 turns rest turn after h.2 r)
+front-next chunked bytes (first ∷ turns) rest turn after h r =
+    (h.0, h.1, front-next chunked h.0 turns rest turn after h.2 r)
 
-pub Spells-next : (bytes : List ℕ) (turns : List Turn) (rest : List ℕ) (turn : Turn) (after : List ℕ)
-    → Spells bytes (map plain turns) rest → IsRequest rest turn.request after
-    → Spells bytes (map plain (turns ++ turn ∷ [])) after
-Spells-next bytes turns rest turn after h r =
-    subst (λ (ts : List FrontTurn). Spells bytes ts after) (plain-push turns turn)
-    (front-next bytes (map plain turns) rest (plain turn) after h r)
+pub Spells-next : (chunked : Bool) (bytes : List ℕ) (turns : List Turn) (rest : List ℕ) (turn : Turn)
+    (after : List ℕ) → SpellsBy chunked bytes (map plain turns) rest → IsRequestBy chunked rest turn.request after
+    → SpellsBy chunked bytes (map plain (turns ++ turn ∷ [])) after
+Spells-next chunked bytes turns rest turn after h r =
+    subst (λ (ts : List FrontTurn). SpellsBy chunked bytes ts after) (plain-push turns turn)
+    (front-next chunked bytes (map plain turns) rest (plain turn) after h r)
 
 -- ---- what is replied
 

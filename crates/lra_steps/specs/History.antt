@@ -3,13 +3,13 @@ use Rattle.std.specs.Prelude.{◌≡◌, ◌⊎◌, ℕ, zero, suc, ◌-◌, ◌
 use Rattle.std.specs.Prelude.{map, length, take, drop, Option, Some, None, is_some, IsTrue, ⊤, if◌then◌else◌}
 use Rattle.std.specs.Option.{option_map_or}
 use Rattle.lra_wire.specs.declared.fault.WireFault.{WireFault}
-use Rattle.lra_wire.specs.Fronts.{RefusesFront}
-use Rattle.lra_wire.specs.Request.{Request, IsRequest, RefusesRequest}
+use Rattle.lra_wire.specs.Request.{Request}
+use Rattle.lra_wire.specs.Coded.{IsRequestBy, RefusesFrontBy, RefusesRequestBy, most_of}
 use Rattle.lra_front.specs.declared.stream.StreamEnd.{StreamEnd}
 use Rattle.lra_front.specs.declared.stream.StreamEnd.TheVariants.{Done, Refused, WriteFault}
 use Rattle.lra_front.specs.Replies.{reply_bytes}
 use Rattle.lra_front.specs.Streams.{fault_answer, is_head, closes_after}
-use Rattle.lra_front.specs.Transcripts.{Turn as FrontTurn, Spells, StaysOpen, StaysOpenBefore, ClosesLast, IsFront}
+use Rattle.lra_front.specs.Transcripts.{Turn as FrontTurn, StaysOpen, StaysOpenBefore, ClosesLast, IsFront}
 use Rattle.lra_steps.specs.declared.handler.Answered.{Answered}
 
 -- a request, the moment at which it was answered, its answer, and the instance that answered
@@ -27,6 +27,8 @@ pub record History : Type 0 where
   -- the instance whose identifiers the reply to a fault of reading names, and the base of all URIs
   pub instance : ℕ
   pub base : List ℕ
+  -- whether chunked bodies and the expectation `100-continue` are accepted
+  pub chunked : Bool
   -- all bytes that were accepted, those of them that belong to no request yet, and whether no more come
   pub taken : List ℕ
   pub kept : List ℕ
@@ -56,57 +58,64 @@ replies base (suc n) (turn ∷ turns) = turn_reply base false turn ++ replies ba
 abbrev pub fault_reply : ℕ → List ℕ → WireFault → List ℕ
 fault_reply instance base fault = option_map_or (λ a. reply_bytes instance base a false true) (fault_answer fault) []
 
+-- the bytes spell the requests of these turns, where chunked bodies are accepted or refused, and then the rest
+abbrev pub SpellsBy : Bool → List ℕ → List FrontTurn → List ℕ → Type 0
+SpellsBy chunked bytes [] rest = bytes ≡ rest
+SpellsBy chunked bytes (turn ∷ turns) rest = (more : List ℕ) × IsRequestBy chunked bytes turn.request more
+    × SpellsBy chunked more turns rest
+
 -- The bytes are those that are kept. Where a request stands, they are that request and then those that are kept.
-abbrev pub StandsAt : Option Request → List ℕ → List ℕ → Type 0
-StandsAt None bytes kept = bytes ≡ kept
-StandsAt (Some request) bytes kept = IsRequest bytes request kept
+abbrev pub StandsAt : Bool → Option Request → List ℕ → List ℕ → Type 0
+StandsAt chunked None bytes kept = bytes ≡ kept
+StandsAt chunked (Some request) bytes kept = IsRequestBy chunked bytes request kept
 
 -- The end stays whatever bytes follow: the stream is closed after the last request, or the kept bytes can't become a
 -- request, or a reply was lost.
-abbrev pub IsLasting : StreamEnd → List Turn → List ℕ → Type 0
-IsLasting Done turns kept = ClosesLast 999 (map plain turns)
-IsLasting (Refused fault) turns kept = RefusesFront kept fault
-IsLasting WriteFault turns kept = ⊤
+abbrev pub IsLasting : Bool → StreamEnd → List Turn → List ℕ → Type 0
+IsLasting chunked Done turns kept = ClosesLast 999 (map plain turns)
+IsLasting chunked (Refused fault) turns kept = RefusesFrontBy chunked kept fault
+IsLasting chunked WriteFault turns kept = ⊤
 
 -- The stream stays open after each request so far. Once it has ended, no request stands, and that end stays whatever
 -- follows, or no more bytes come.
 abbrev pub IsOpenSo : Option StreamEnd → History → Type 0
 IsOpenSo None h = StaysOpen 999 (map plain h.turns)
-IsOpenSo (Some end) h = (h.stands ≡ None) × (IsLasting end h.turns h.kept ⊎ IsTrue h.closed)
+IsOpenSo (Some end) h = (h.stands ≡ None) × (IsLasting h.chunked end h.turns h.kept ⊎ IsTrue h.closed)
 
 -- How a stream has ended after these turns, where the rest was still to be read, and what was replied by then: the
 -- replies to the requests that were answered, in order, and to a fault of reading. Where the last reply was lost, that
 -- is a proper prefix of them.
-abbrev pub EndsAfter : ℕ → List ℕ → List Turn → List ℕ → List ℕ → StreamEnd → Type 0
-EndsAfter instance base turns rest out Done = (out ≡ replies base 999 turns)
+abbrev pub EndsAfter : Bool → ℕ → List ℕ → List Turn → List ℕ → List ℕ → StreamEnd → Type 0
+EndsAfter chunked instance base turns rest out Done = (out ≡ replies base 999 turns)
     × (((rest ≡ []) × StaysOpen 999 (map plain turns)) ⊎ ClosesLast 999 (map plain turns))
-EndsAfter instance base turns rest out (Refused fault) =
-    (out ≡ replies base 999 turns ++ fault_reply instance base fault) × RefusesRequest rest fault
+EndsAfter chunked instance base turns rest out (Refused fault) =
+    (out ≡ replies base 999 turns ++ fault_reply instance base fault) × RefusesRequestBy chunked rest fault
     × StaysOpen 999 (map plain turns)
-EndsAfter instance base turns rest out WriteFault = IsFront out (replies base 999 turns)
+EndsAfter chunked instance base turns rest out WriteFault = IsFront out (replies base 999 turns)
     × StaysOpenBefore 999 (map plain turns)
 
 -- The bytes that were sent and those that may be are the replies to the requests that were answered, in order, and at
 -- the end what `EndsAfter` says.
 abbrev pub Replies : Option StreamEnd → History → Type 0
 Replies None h = h.sent ++ h.out ≡ replies h.base 999 h.turns
-Replies (Some end) h = EndsAfter h.instance h.base h.turns h.kept (h.sent ++ h.out) end
+Replies (Some end) h = EndsAfter h.chunked h.instance h.base h.turns h.kept (h.sent ++ h.out) end
 
 -- What is true of every connection, after any calls.
 pub record IsServed (h : History) : Type 0 where
   -- the accepted bytes are the requests that were answered, in order, then the one that stands, and then the kept bytes
   pub behind : List ℕ
-  pub spelled : Spells h.taken (map plain h.turns) behind
-  pub standing : StandsAt h.stands behind h.kept
+  pub spelled : SpellsBy h.chunked h.taken (map plain h.turns) behind
+  pub standing : StandsAt h.chunked h.stands behind h.kept
   pub open_so : IsOpenSo h.ended h
   pub replied : Replies h.ended h
-  pub bound : length h.kept ≤ 73728
+  pub bound : length h.kept ≤ most_of h.chunked
 
 -- a connection to which nothing has come
 abbrev pub begun : ℕ → List ℕ → History
 begun instance base = record {
   instance = instance;
   base = base;
+  chunked = false;
   taken = [];
   kept = [];
   closed = false;
@@ -117,10 +126,14 @@ begun instance base = record {
   out = [];
 }
 
+-- the same, where chunked bodies are accepted or refused
+abbrev pub begun_by : Bool → ℕ → List ℕ → History
+begun_by chunked instance base = record (begun instance base) { chunked = chunked }
+
 -- how many more bytes are accepted: none once it has ended, and else no more are kept than the largest request has
 -- (this project's choice)
 abbrev pub room_of : History → ℕ
-room_of h = if h.closed || is_some h.ended then 0 else 73728 - length h.kept
+room_of h = if h.closed || is_some h.ended then 0 else most_of h.chunked - length h.kept
 
 -- these bytes were accepted
 abbrev pub took : History → List ℕ → History

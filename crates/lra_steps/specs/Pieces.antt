@@ -1,5 +1,5 @@
 -- Connections whose requests a handler answers, and streams that come in pieces to a counter.
-use Rattle.std.specs.Prelude.{◌≡◌, ℕ, Bool, List, [], ◌∷◌, ◌++◌, map, Option, Some, None, Result}
+use Rattle.std.specs.Prelude.{◌≡◌, ℕ, Bool, false, List, [], ◌∷◌, ◌++◌, map, Option, Some, None, Result}
 use Rattle.std.specs.declared.alloc.AllocError.{AllocError}
 use Rattle.lra_wire.specs.Request.{Request}
 use Rattle.lra_commands.specs.declared.command.Told.{Told}
@@ -50,7 +50,7 @@ module _ {S K : Type 0} (responds : S → ℕ → Request → Answered → S →
     pub spelled : Spells bytes (map plain turns) rest
     pub chain : Chain v k turns w l
     pub written : new ≡ old ++ out
-    pub ends : EndsAfter instance base turns rest out end
+    pub ends : EndsAfter false instance base turns rest out end
 
 module _ {S K : Type 0} (responds : S → ℕ → Request → Answered → S → Type 0) (rests : S → S → Type 0)
     (tells : K → ℕ → K → Type 0) where

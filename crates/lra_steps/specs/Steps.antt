@@ -3,8 +3,8 @@ use Rattle.std.specs.Prelude.{◌≡◌, ◌≢◌, ◌⊎◌, ◌<◌, ◌≤�
 use Rattle.std.specs.Prelude.{Err, IsTrue, IsFalse, IsSome}
 use Rattle.std.specs.declared.alloc.AllocError.{AllocError}
 use Rattle.lra_wire.specs.declared.fault.WireFault.TheVariants.{Cut, Memory}
-use Rattle.lra_wire.specs.Fronts.{RefusesFront}
-use Rattle.lra_wire.specs.Request.{Request, IsRequest, RefusesRequest, AwaitsRequest}
+use Rattle.lra_wire.specs.Request.{Request}
+use Rattle.lra_wire.specs.Coded.{IsRequestBy, RefusesFrontBy, RefusesRequestBy, AwaitsRequestBy, most_of}
 use Rattle.lra_front.specs.declared.stream.StreamEnd.{StreamEnd}
 use Rattle.lra_front.specs.declared.stream.StreamEnd.TheVariants.{Done, Refused, WriteFault}
 use Rattle.lra_steps.specs.declared.connection.Step.{Step}
@@ -18,16 +18,16 @@ IsFree h = (h.ended ≡ None) × (h.stands ≡ None)
 -- Why a connection ends: no more bytes come and none are kept, or the kept bytes are no request and can't become one.
 abbrev pub Ends : StreamEnd → History → Type 0
 Ends Done h = IsTrue h.closed × (h.kept ≡ [])
-Ends (Refused fault) h = ((fault ≢ Memory) × RefusesFront h.kept fault)
-    ⊎ (IsTrue h.closed × (fault ≡ Cut) × RefusesRequest h.kept Cut)
+Ends (Refused fault) h = ((fault ≢ Memory) × RefusesFrontBy h.chunked h.kept fault)
+    ⊎ (IsTrue h.closed × (fault ≡ Cut) × RefusesRequestBy h.chunked h.kept Cut)
 Ends WriteFault h = ⊥
 
 -- what a step means for the history before it, and what it changes
 abbrev pub StepsTo : Step → History → History → Type 0
-StepsTo NeedsInput old new = IsFree old × IsFalse old.closed × AwaitsRequest old.kept × (length old.kept < 73728)
-    × (new ≡ old)
-StepsTo RequestReady old new = (request : Request) × (rest : List ℕ) × IsFree old × IsRequest old.kept request rest
-    × (new ≡ ordered old request rest)
+StepsTo NeedsInput old new = IsFree old × IsFalse old.closed × AwaitsRequestBy old.chunked old.kept
+    × (length old.kept < most_of old.chunked) × (new ≡ old)
+StepsTo RequestReady old new = (request : Request) × (rest : List ℕ) × IsFree old
+    × IsRequestBy old.chunked old.kept request rest × (new ≡ ordered old request rest)
 StepsTo ReplyPending old new = (old.ended ≡ None) × IsSome old.stands × (new ≡ old)
 StepsTo (Ended end) old new = ((old.ended ≡ Some end) × (new ≡ old)) ⊎
     (IsFree old × Ends end old × (new ≡ ended_by old end))

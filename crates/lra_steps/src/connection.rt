@@ -13,17 +13,19 @@ ghost use Rattle.std.specs.Prelude.{
   if◌then◌else◌,
   Some,
   None,
+  true,
   IfSome,
   IsTrue,
   IsSome,
 };
 ghost use Rattle.std.specs.Option.{option_map};
-ghost use Rattle.lra_wire.specs.Fronts.{IsUnfinished, Sees};
+ghost use Rattle.lra_wire.specs.Coded.{AwaitsContinue, IsUnfinishedBy, most_of};
+ghost use Rattle.lra_wire.specs.CodedCursor.{SeesCoded};
 ghost use Rattle.lra_wire.specs.Request.{request_of};
 ghost use Rattle.lra_front.specs.declared.stream.StreamEnd.TheVariants.{Done, WriteFault};
 ghost use Rattle.lra_front.specs.Replies.{HasIdentifiers};
 ghost use Rattle.lra_front.specs.Streams as stream;
-ghost use Rattle.lra_steps.specs.History.{IsServed, begun, room_of, finished, went};
+ghost use Rattle.lra_steps.specs.History.{IsServed, begun, begun_by, room_of, finished, went};
 ghost use Rattle.lra_steps.specs.Steps.{Steps, Takes, Tells};
 ghost use Rattle.lra_steps.specs.inner.Ends.{Finds, EndsWithout};
 ghost use Rattle.lra_steps.specs.inner.Fields.{backs, fronts, turn_of};
@@ -36,15 +38,16 @@ use lra_front::StreamEnd;
 use lra_ids::{Base, Instance};
 use lra_log::Log;
 use lra_model::Memory;
-use lra_wire::{
-    Front, RequestCursor, RequestRead, WireFault, end_fault, request_front, request_front_seen,
-};
+use lra_wire::{CodedCursor, Front, RequestRead, WireFault, front_by, front_seen_by};
 use std::alloc::{AllocError, Global};
 use std::marker::Model;
 use std::snapshot::Snapshot;
 
 /// Largest number of bytes that are kept: those of the largest request, a head of 8,192 bytes and a body of 65,536.
 const MAX_KEPT: usize = 73_728;
+
+/// The same where chunked bodies are accepted: as many bytes as a body more, for the lines of the chunks and a trailer.
+const MAX_KEPT_CHUNKED: usize = 139_264;
 
 /// Largest number of requests that are accepted, beside the last.
 const MOST_OTHERS: u64 = 999;
@@ -78,7 +81,9 @@ pub struct Connection {
     kept: Queue,
     out: Queue,
     /// Findings on the bytes that are kept, so that they aren't read anew with each piece.
-    seen: RequestCursor,
+    seen: CodedCursor,
+    /// Chunked bodies and the expectation `100-continue` are accepted.
+    chunked: bool,
     /// Request that stands to be answered.
     stands: Option<RequestRead>,
     ended: Option<StreamEnd>,
@@ -140,30 +145,39 @@ fn next_front(
     alloc: Global,
     kept: &[u8],
     closed: bool,
-    seen: &mut RequestCursor,
+    chunked: bool,
+    seen: &mut CodedCursor,
 ) -> Result<Option<Front>, WireFault>
-    requires { Sees seen.old kept.now }
-    ensures front { Finds closed kept.now result }
-    ensures seen { Sees seen.new kept.now }
+    requires { SeesCoded seen.old kept.now }
+    ensures front { Finds chunked closed kept.now result }
+    ensures seen { SeesCoded seen.new kept.now }
 {
     if closed {
-        request_front(alloc, kept)
+        front_by(alloc, kept, chunked)
     } else {
-        request_front_seen(alloc, kept, seen)
+        front_seen_by(alloc, kept, chunked, seen)
     }
 }
 
+/// Returns how many bytes are kept at most.
+fn most_kept(chunked: bool) -> usize
+    ensures { result ≡ most_of chunked }
+{
+    if chunked { MAX_KEPT_CHUNKED } else { MAX_KEPT }
+}
+
 /// Returns how a connection ends where more of a request is wanted. It doesn't end while bytes may come.
-fn end_without(closed: bool, kept: &[u8]) -> Option<StreamEnd>
-    requires { IsTrue closed → IsUnfinished kept.now }
-    ensures { EndsWithout closed kept.now result }
+fn end_without(closed: bool, chunked: bool, kept: &[u8]) -> Option<StreamEnd>
+    requires { IsTrue closed → IsUnfinishedBy chunked kept.now }
+    ensures { EndsWithout chunked closed kept.now result }
 {
     if !closed {
         return None;
     }
-    match end_fault(kept) {
-        None => Some(StreamEnd::Done),
-        Some(fault) => Some(StreamEnd::Refused(fault)),
+    if kept.is_empty() {
+        Some(StreamEnd::Done)
+    } else {
+        Some(StreamEnd::Refused(WireFault::Cut))
     }
 }
 
@@ -201,12 +215,20 @@ impl Connection {
     pub fn new(alloc: Global, instance: Instance, base: &Base) -> Connection
         ensures { result ≡ begun instance base.now }
     {
+        Connection::with_chunked(alloc, instance, base, false)
+    }
+
+    /// Makes the same connection. Chunked bodies and the expectation `100-continue` are accepted, if that is said.
+    pub fn with_chunked(alloc: Global, instance: Instance, base: &Base, chunked: bool) -> Connection
+        ensures { result ≡ begun_by chunked instance base.now }
+    {
         Connection {
             alloc,
             instance,
             kept: Queue::new(alloc),
             out: Queue::new(alloc),
-            seen: RequestCursor::nothing(),
+            seen: CodedCursor::nothing(alloc),
+            chunked,
             stands: None,
             ended: None,
             closed: false,
@@ -232,7 +254,7 @@ impl Connection {
         if self.closed || self.ended.is_some() {
             0
         } else {
-            MAX_KEPT - self.kept.as_slice().len()
+            most_kept(self.chunked) - self.kept.as_slice().len()
         }
     }
 
@@ -271,15 +293,16 @@ impl Connection {
             self.alloc,
             self.kept.as_slice(),
             self.closed,
+            self.chunked,
             &mut self.seen,
         ) {
             Ok(Some(front)) => {
                 self.kept.advance(front.len);
-                self.seen = RequestCursor::nothing();
+                self.seen = CodedCursor::nothing(self.alloc);
                 self.stands = Some(front.request);
                 Ok(Step::RequestReady)
             }
-            Ok(None) => match end_without(self.closed, self.kept.as_slice()) {
+            Ok(None) => match end_without(self.closed, self.chunked, self.kept.as_slice()) {
                 None => Ok(Step::NeedsInput),
                 Some(end) => {
                     self.ended = Some(end);
@@ -295,6 +318,20 @@ impl Connection {
                 Ok(Step::Ended(StreamEnd::Refused(fault)))
             }
         }
+    }
+
+    /// Returns whether the client waits for `100 Continue` before it sends the body of a request. Its head is in order.
+    pub fn awaits_continue(&self) -> bool
+        ensures { result ≡ true → AwaitsContinue self.now.kept }
+    {
+        !self.closed && self.seen.awaits_continue(self.kept.as_slice())
+    }
+
+    /// Notes that `100 Continue` was sent.
+    pub fn note_continued(&mut self)
+        ensures { self.new ≡ self.old }
+    {
+        self.seen.note_continued();
     }
 
     /// Returns the request that stands to be answered, if one does.

@@ -348,7 +348,7 @@ chunks_more bytes start at from to body chunks piece =
     }
 
 -- the same chunks in more bytes
-chunks_ahead : (bytes more : List ℕ) (start at : ℕ) (body : List ℕ) → ChunksTo bytes start at body
+pub chunks_ahead : (bytes more : List ℕ) (start at : ℕ) (body : List ℕ) → ChunksTo bytes start at body
     → Joined (bytes ++ more) start at body
 chunks_ahead bytes more start at body chunks =
     let joined = chunks.so_far in

@@ -14,3 +14,4 @@ pub mod OpenLemmas
 pub mod ChunksLemmas
 pub mod ComingLemmas
 pub mod TakenLemmas
+pub mod CodedLemmas

@@ -9,4 +9,6 @@ pub mod ResponseParse
 pub mod Response
 pub mod RequestCursor
 pub mod Requests
+pub mod Coded
+pub mod CodedCursor
 pub mod inner

@@ -7,3 +7,4 @@ pub mod Wanted
 pub mod Chunked
 pub mod Parts
 pub mod Reading
+pub mod CodedParts

@@ -2,7 +2,7 @@
 ghost use Rattle.std.specs.Prelude.{◌≡◌, ◌≤◌, ◌+◌, [], length};
 ghost use Rattle.lra_wire.specs.inner.Chunked.{FindsLine, FindsTrailer, has_line_end, OneMore};
 ghost use Rattle.lra_wire.specs.inner.Chunked.{HasRead, FindsEnd, FindsContent, FindsPart};
-ghost use Rattle.lra_wire.specs.inner.Parts.{FindsBodyFront};
+ghost use Rattle.lra_wire.specs.inner.Parts.{FindsBodyFront, IsLastFrom};
 
 use crate::fault::WireFault;
 use crate::framing::Framing;
@@ -34,6 +34,8 @@ pub(crate) struct ChunksRead {
     pub(crate) start: usize,
     pub(crate) end: usize,
     pub(crate) body: Vec<u8>,
+    /// Offset of the last line, once the body was whole.
+    pub(crate) last: usize,
 }
 
 impl ChunksRead {
@@ -43,7 +45,9 @@ impl ChunksRead {
         ensures start { self.new.start ≡ self.old.start }
         ensures end { self.new.end ≡ self.old.start }
         ensures none { self.new.body.items ≡ [] }
+        ensures last { self.new.last ≡ self.old.end }
     {
+        self.last = self.end;
         self.end = self.start;
         mem::replace(&mut self.body, Vec::new(alloc))
     }
@@ -154,6 +158,9 @@ pub(crate) fn chunks_at(
     ensures start { chunks.new.start ≡ chunks.old.start }
     ensures read { HasRead bytes.now chunks.new }
     ensures finds { FindsBodyFront Framing.Chunks chunks.old.start bytes.now result }
+
+    // The last line and the trailer begin there, if the body is whole.
+    ensures last { IsLastFrom chunks.old.start chunks.new.last bytes.now result }
 {
     loop {
         match part_at(bytes, chunks.end, MAX_BODY - chunks.body.len())? {

@@ -6,6 +6,7 @@
 #![tactic(auto)]
 
 mod chunks;
+mod coded;
 mod fault;
 mod fields;
 mod framing;
@@ -20,6 +21,7 @@ mod wanted;
 mod write;
 
 pub use chunks::MAX_RESPONSE;
+pub use coded::{CodedCursor, front_by, front_seen_by, one_front_by};
 pub use fault::WireFault;
 pub use front::{Front, RequestCursor, end_fault, one_front, request_front, request_front_seen};
 pub use inbox::Inbox;

@@ -67,6 +67,7 @@ impl ResponseCursor {
                 start: 0,
                 end: 0,
                 body: Vec::new(alloc),
+                last: 0,
             },
             wanted: Wanted::Bytes(0),
         }
@@ -193,7 +194,7 @@ fn final_head(bytes: &[u8], passed: &mut InterimHeads) -> Result<Option<Head>, W
 
 /// Reads the body on from the chunks that were read so far, if it has chunks. A body that ends with the stream isn't
 /// whole here.
-fn body_at(
+pub(crate) fn body_at(
     alloc: Global,
     bytes: &[u8],
     framing: Framing,

@@ -3,21 +3,21 @@ use Rattle.std.specs.Prelude.{◌≡◌, ℕ, ◌<◌, Bool, List, [], length, O
 use Rattle.lra_wire.specs.declared.fault.WireFault.{WireFault}
 use Rattle.lra_wire.specs.declared.fault.WireFault.TheVariants.{Cut}
 use Rattle.lra_wire.specs.declared.front.Front.{Front}
-use Rattle.lra_wire.specs.Fronts.{RefusesFront, IsUnfinished, IsFront}
-use Rattle.lra_wire.specs.Request.{RefusesRequest, AwaitsRequest}
+use Rattle.lra_wire.specs.Coded.{RefusesFrontBy, RefusesRequestBy, IsUnfinishedBy, AwaitsRequestBy, IsFrontBy, most_of}
 use Rattle.lra_front.specs.declared.stream.StreamEnd.{StreamEnd}
 use Rattle.lra_front.specs.declared.stream.StreamEnd.TheVariants.{Done, Refused, WriteFault}
 
 -- a whole request, or that more bytes are wanted, or a fault
-abbrev pub Finds : Bool → List ℕ → Result (Option Front) WireFault → Type 0
-Finds closed kept (Ok (Some front)) = IsFront kept (Ok (Some front))
-Finds closed kept (Ok None) = (IsTrue closed → IsUnfinished kept) × (IsFalse closed → AwaitsRequest kept)
-    × (length kept < 73728)
-Finds closed kept (Err fault) = RefusesFront kept fault
+abbrev pub Finds : Bool → Bool → List ℕ → Result (Option Front) WireFault → Type 0
+Finds chunked closed kept (Ok (Some front)) = IsFrontBy chunked kept (Ok (Some front))
+Finds chunked closed kept (Ok None) = (IsTrue closed → IsUnfinishedBy chunked kept)
+    × (IsFalse closed → AwaitsRequestBy chunked kept) × (length kept < most_of chunked)
+Finds chunked closed kept (Err fault) = RefusesFrontBy chunked kept fault
 
 -- how a connection ends: not while bytes may come, and after that by the bytes that are kept
-abbrev pub EndsWithout : Bool → List ℕ → Option StreamEnd → Type 0
-EndsWithout closed kept None = IsFalse closed
-EndsWithout closed kept (Some Done) = IsTrue closed × (kept ≡ [])
-EndsWithout closed kept (Some (Refused fault)) = IsTrue closed × (fault ≡ Cut) × RefusesRequest kept Cut
-EndsWithout closed kept (Some WriteFault) = ⊥
+abbrev pub EndsWithout : Bool → Bool → List ℕ → Option StreamEnd → Type 0
+EndsWithout chunked closed kept None = IsFalse closed
+EndsWithout chunked closed kept (Some Done) = IsTrue closed × (kept ≡ [])
+EndsWithout chunked closed kept (Some (Refused fault)) = IsTrue closed × (fault ≡ Cut)
+    × RefusesRequestBy chunked kept Cut
+EndsWithout chunked closed kept (Some WriteFault) = ⊥

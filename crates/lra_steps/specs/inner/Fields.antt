@@ -2,7 +2,7 @@
 use Rattle.std.specs.Prelude.{◌≡◌, ℕ, ◌-◌, List, map, take, drop, flat_map, length}
 use Rattle.std.specs.Option.{option_map}
 use Rattle.lra_wire.specs.declared.request.RequestRead.{RequestRead}
-use Rattle.lra_wire.specs.Fronts.{Sees}
+use Rattle.lra_wire.specs.CodedCursor.{SeesCoded}
 use Rattle.lra_wire.specs.Request.{request_of}
 use Rattle.lra_steps.specs.declared.connection.Connection.TheInside.{Inside}
 use Rattle.lra_steps.specs.declared.connection.Reply.{Reply}
@@ -23,6 +23,7 @@ abbrev pub history_of : Inside → History
 history_of c = record {
   instance = c.instance;
   base = c.base.value;
+  chunked = c.chunked;
   taken = flat_map (λ t. t) (backs c.reads.items);
   kept = c.kept;
   closed = c.closed;
@@ -37,5 +38,5 @@ history_of c = record {
 -- the last
 pub record Holds (c : Inside) : Type 0 where
   pub served : IsServed (history_of c)
-  pub seen : Sees c.seen c.kept
+  pub seen : SeesCoded c.seen c.kept
   pub left : c.left ≡ 999 - length (history_of c).turns

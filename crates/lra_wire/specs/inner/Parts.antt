@@ -18,7 +18,8 @@ use Rattle.lra_wire.specs.ResponseParse.{Lasts}
 use Rattle.lra_wire.specs.declared.response_parse.ResponseParse.TheVariants as response_parse
 use Rattle.lra_wire.specs.declared.wanted.BodyFront.TheVariants as body
 use Rattle.lra_wire.specs.inner.Wanted.{IsOpenAt, LastsAt}
-use Rattle.lra_wire.specs.inner.Chunked.{HasRead}
+use Rattle.lra_wire.specs.Chunks.{HasLast}
+use Rattle.lra_wire.specs.inner.Chunked.{HasRead, ChunksTo}
 
 -- the bytes begin with a head within the limits, and these are its values
 pub record IsHeadOf (bytes : List ℕ) (found : Head) : Type 0 where
@@ -122,3 +123,16 @@ EndsOpen (Some head) bytes = (framing : Framing) × (head.framing ≡ Ok framing
 abbrev pub EndsAsOpen : Option Head → List ℕ → ResponseParse → Type 0
 EndsAsOpen head bytes (response_parse.Whole read len) = ⊤
 EndsAsOpen head bytes (response_parse.Open wanted) = EndsOpen head bytes
+
+-- chunks from an offset on make up the body, and the last line and the trailer stand between these offsets
+pub record LastFrom (start last : ℕ) (bytes body : List ℕ) (end : ℕ) : Type 0 where
+  pub ordered : last ≤ end
+  pub within : end ≤ length bytes
+  pub so_far : ChunksTo bytes start last body
+  pub there : (more : List ℕ) → HasLast (drop last (bytes ++ more)) (drop end (bytes ++ more))
+
+-- the same where the body is whole
+abbrev pub IsLastFrom : ℕ → ℕ → List ℕ → Result BodyFront WireFault → Type 0
+IsLastFrom start last bytes (Ok (body.Whole content end)) = LastFrom start last bytes content.items end
+IsLastFrom start last bytes (Ok (body.Open wanted)) = ⊤
+IsLastFrom start last bytes (Err fault) = ⊤

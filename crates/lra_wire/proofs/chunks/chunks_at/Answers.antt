@@ -8,7 +8,7 @@ use Rattle.lra_wire.specs.Chunks.{RefusesChunk}
 use Rattle.lra_wire.specs.Response.{RefusesFramed, AwaitsBody}
 use Rattle.lra_wire.specs.inner.Wanted.{IsOpenAt, LastsAt}
 use Rattle.lra_wire.specs.inner.Chunked.{FindsPart, ChunksTo}
-use Rattle.lra_wire.specs.inner.Parts.{IsBodyTo}
+use Rattle.lra_wire.specs.inner.Parts.{IsBodyTo, LastFrom}
 use Rattle.lra_wire.proofs.ChunksLemmas.{chunks_more, chunks_whole, chunks_open, chunks_cut, chunks_refused, read_again}
 use Rattle.lra_wire.proofs.chunks.chunks_at.Goals as goal
 
@@ -68,3 +68,23 @@ returns-in-Open-clause-finds c =
       chunks_open bytes read.start read.end c.in-Open.wanted read.body.items c.loop-from.invariant.0 part.0,
       chunks_cut bytes read.start read.end read.body.items c.loop-from.invariant.0 cut,
     )
+
+pub returns-in-Last-clause-last : goal.returns-in-Last-clause-last
+returns-in-Last-clause-last c =
+    let read = c.loop-from.chunks in
+    let part : FindsPart read.end (65536 - c.len.result) c.args.bytes.now (Ok (Last c.in-Last.end)) =
+    subst (λ (p : Part). FindsPart read.end (65536 - c.len.result) c.args.bytes.now (Ok p)) c.in-Last.is
+    c.in_ok-from.ensures in
+    let here : LastFrom read.start read.end c.args.bytes.now read.body.items c.in-Last.end = record {
+      ordered = part.0;
+      within = part.1;
+      so_far = c.loop-from.invariant.0;
+      there = part.3;
+    } in
+    let start = c.args.chunks.now.start in
+    subst (λ (bs : List ℕ). LastFrom start c.hand_out.new.self.last c.args.bytes.now bs c.in-Last.end)
+    (sym c.hand_out.ensures.body)
+    (subst (λ (n : ℕ). LastFrom start n c.args.bytes.now read.body.items c.in-Last.end)
+    (sym c.hand_out.ensures.last)
+    (subst (λ (n : ℕ). LastFrom n read.end c.args.bytes.now read.body.items c.in-Last.end) c.loop-from.invariant.1
+    here))

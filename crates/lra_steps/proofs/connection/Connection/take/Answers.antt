@@ -1,6 +1,6 @@
 use Rattle.std.proofs.Common.{ℕ, List, refl, sym, ap, length, subst, ◌≤◌, arith}
-use Rattle.lra_wire.specs.Fronts.{Sees}
-use Rattle.lra_wire.proofs.FrontLemmas.{sees_more}
+use Rattle.lra_wire.specs.CodedCursor.{SeesCoded}
+use Rattle.lra_wire.proofs.CodedLemmas.{coded_more}
 use Rattle.lra_steps.specs.History.{IsServed, room_of}
 use Rattle.lra_steps.specs.inner.Fields.{history_of, backs}
 use Rattle.lra_steps.proofs.HistoryLemmas.{served_took, took_is}
@@ -21,7 +21,7 @@ invariant_of-self-2 c =
           (backs c.note_back.new.log.items) _ refl
           (ap length c.as_slice-place.ensures) c.in_ok-push.ensures.ok c.note_back.ensures))
           (served_took h c.args.bytes.now c.self.invariant.served fits);
-      seen = subst (λ (xs : List ℕ). Sees c.self.inside.seen xs) (sym c.in_ok-push.ensures.ok)
-          (sees_more c.self.inside.seen c.self.inside.kept c.args.bytes.now c.self.invariant.seen);
+      seen = subst (λ (xs : List ℕ). SeesCoded c.self.inside.seen xs) (sym c.in_ok-push.ensures.ok)
+          (coded_more c.self.inside.seen c.self.inside.kept c.args.bytes.now c.self.invariant.seen);
       left = c.self.invariant.left;
     }
