@@ -209,7 +209,7 @@ def words_of_help(setting):
     told, serving = setting.run("--help").output, setting.run("serve", "--help").output
     verbs, calls = (set(re.findall(rf"^lra ({word}) ", told, re.M)) for word in ("[a-z]+", "--[a-z]+"))
     options = set(re.findall(r"--[a-z][a-z-]*", serving))
-    equal("how many there are", (len(verbs), len(calls), len(options)), (9, 2, 37))
+    equal("how many there are", (len(verbs), len(calls), len(options)), (9, 2, 38))
     return verbs, calls, options
 
 

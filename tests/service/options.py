@@ -43,7 +43,7 @@ NUMBERS = (
 WORDS = (
     *("base", "also-base", "token", "operators", "operators-key", "key", "origin", "members", "members-via"),
     "member-token",
-    *("log", "log-format", "fence"),
+    *("dialect", "log", "log-format", "fence"),
 )
 LISTS = ("also-base", "origin", "members")
 NAMES = [name for name, *_ in NUMBERS] + ["stop-at-eof"]
@@ -260,6 +260,7 @@ def test_a_fault_of_a_text_in_a_file_names_the_file_and_the_key(setting):
         ('origin = ["a.test", "a b"]', "origin: no name: a b"),
         ('members = ["*", "10.0.0.0/33"]', "members: no rule: 10.0.0.0/33"),
         ('members-via = "proxy:8443"', "members-via: no IP address and port: proxy:8443"),
+        ('dialect = "other"', "dialect: other is not narayana"),
         ('fence = "owner"', f"fence: {setting.journal} is no folder"),
     ):
         path = config(setting, text + "\n")

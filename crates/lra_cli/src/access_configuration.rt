@@ -46,6 +46,8 @@ pub(crate) struct PolicyParts {
     member_token: Option<TokenFile>,
     /// Traces of the requests that end actions, if they are passed on.
     traces: Option<Traces>,
+    /// Flag that services speak the dialect of clients of MicroProfile LRA.
+    speaks_dialect: bool,
     fence: Option<Arc<Fence>>,
 }
 
@@ -71,6 +73,7 @@ impl PolicyParts {
             retry_after: self.retry_after,
             member_token: self.member_token.as_ref(),
             traces: self.traces.as_ref(),
+            speaks_dialect: self.speaks_dialect,
         }
     }
 
@@ -206,6 +209,18 @@ fn traces_of(alloc: Global, is_passed_on: bool) -> Option<Traces> {
     }
 }
 
+/// Returns whether services speak the dialect of clients of MicroProfile LRA, if the options name one.
+fn dialect_of(alloc: Global, said: &RawOptions<'_>) -> Result<bool, OptionsFault> {
+    match said.text(Word::Dialect) {
+        Some("narayana") => Ok(true),
+        Some(text) => {
+            let what = format!(in alloc; "{text} is not narayana");
+            Err(said.refused(alloc, Word::Dialect, what))
+        }
+        None => Ok(false),
+    }
+}
+
 /// Returns whether a text may be the last part of a base, and is long enough that nobody guesses it.
 fn is_token(text: &str) -> bool {
     let is_plain = text.as_bytes().iter().all(|byte| byte.is_ascii_alphanumeric()
@@ -309,6 +324,7 @@ pub(crate) fn access_configuration_of<R: AllocGlobal + Files<File = File> + KeyF
             rules: rules_of(alloc, &options.said)?,
             members_via: members_via_of(alloc, &options.said)?,
             member_token: member_token_of(rt, &options.said)?,
+            speaks_dialect: dialect_of(alloc, &options.said)?,
             default_limit: options.settings.default_limit_ms,
             retry_after: retry_after_of(&options.settings),
             traces: traces_of(alloc, options.settings.trace_context),

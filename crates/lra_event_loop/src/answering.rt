@@ -6,7 +6,7 @@ ghost use Rattle.lra_event_loop.specs.inner.Dues as spec;
 ghost use Rattle.lra_event_loop.specs.inner.Noting.{KeepsNoted};
 
 use crate::positions::Positions;
-use lra_front::{Answer, Clock, Routes};
+use lra_front::{Answer, Clock, DialectTold, Routes};
 use lra_model::Memory;
 use lra_steps::{Connection, Handler, Step, answer_request};
 use std::alloc::Global;
@@ -36,8 +36,24 @@ fn may_be_due(answer: Answer, has_body: bool) -> bool
     match answer {
         Answer::Started(_) => has_body,
         Answer::Turned(_) | Answer::Renewed | Answer::Member(_) => true,
+        Answer::Dialect(answer) => is_due_after(answer.told),
         Answer::Found { .. } | Answer::Joined(_) | Answer::Left | Answer::Denied(_) => false,
         Answer::Retry { .. } => false,
+    }
+}
+
+/// Returns the same for what is told in the dialect, whose starts have no body: they may have a limit.
+fn is_due_after(told: DialectTold) -> bool
+    ensures { result ≡ spec.is_due_after told }
+{
+    match told {
+        DialectTold::Started(_) => true,
+        DialectTold::Turned(_) => true,
+        DialectTold::Done => true,
+        DialectTold::Joined(_) => false,
+        DialectTold::Status(_) => false,
+        DialectTold::Denied(_) => false,
+        DialectTold::Refused(_) => false,
     }
 }
 

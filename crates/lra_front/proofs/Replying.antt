@@ -3,11 +3,10 @@ use Rattle.std.proofs.Common.{◌≡◌, ℕ, ◌<◌, Bool, if◌then◌else◌
 use Rattle.std.proofs.Common.{Option, Err, decimal, codes}
 use Rattle.std.specs.List.{flat_map}
 use Rattle.std.proofs.KnownBytes.{Appends-nil}
-use Rattle.serde_json.specs.Written.{compact_text}
 use Rattle.lra_wire.specs.declared.fault.WireFault.TheVariants.{Memory}
 use Rattle.lra_wire.specs.Writing as wire
 use Rattle.lra_front.specs.declared.answer.Answer.{Answer}
-use Rattle.lra_front.specs.Replies.{code_of, phrase_of, body_of, uri_of, fields_of, line_of, reply_bytes}
+use Rattle.lra_front.specs.Replies.{code_of, phrase_of, text_of, uri_of, fields_of, line_of, reply_bytes}
 use Rattle.lra_front.specs.inner.Seen.{seen}
 use denote.Ref.{Bor}
 
@@ -22,8 +21,8 @@ lines_seen (f ∷ rest) = ap (λ zs. line_of (seen f) ++ zs) (lines_seen rest)
 pub same_text : (i : ℕ) (base : List ℕ) (a : Answer) (head close : Bool) (code : ℕ) (phrase : List ℕ)
     (fields : List (Bor (List ℕ) × Bor (List ℕ))) (body : List ℕ)
     → code ≡ code_of a → phrase ≡ phrase_of (code_of a)
-    → map seen fields ≡ fields_of (uri_of i base a) a (compact_text (body_of (uri_of i base a) a)) close
-    → body ≡ (if head then [] else compact_text (body_of (uri_of i base a) a))
+    → map seen fields ≡ fields_of (uri_of i base a) a (text_of (uri_of i base a) a) close
+    → body ≡ (if head then [] else text_of (uri_of i base a) a)
     → wire.message_text (codes "HTTP/1.1 " ++ (decimal code ++ (codes " " ++ phrase))) fields body
     ≡ reply_bytes i base a head close
 unfolding reply_bytes

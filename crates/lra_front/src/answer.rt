@@ -30,6 +30,7 @@ ghost use Rattle.lra_front.specs.Replies as spec;
 ghost use Rattle.lra_front.specs.inner.Seen.{seen, wait_of, IsPartsOf};
 
 use crate::api_error::ApiError;
+use crate::dialect_answer::DialectAnswer;
 use http::StatusCode;
 use lra_commands::Refusal;
 use lra_ids::{Base, Instance};
@@ -40,7 +41,7 @@ use std::alloc::Global;
 use std::io::Write;
 
 /// Largest number of fields of a reply.
-const MOST_FIELDS: usize = 5;
+const MOST_FIELDS: usize = 6;
 
 /// Answer to a request.
 #[derive(Clone, Copy, Debug, PartialEq, Eq)]
@@ -63,6 +64,8 @@ pub enum Answer {
     Denied(ApiError),
     /// The request was refused, for a reason that goes away by itself: it may be sent again after so many seconds.
     Retry { refusal: Refusal, seconds: u64 },
+    /// Answer in the dialect of clients in Java.
+    Dialect(DialectAnswer),
 }
 
 /// Parts that a reply is written from: the URI that its answer names, its body, and the body's length and the seconds
@@ -178,6 +181,7 @@ impl Answer {
             }
             Answer::Denied(api_error) => api_error.status(),
             Answer::Retry { refusal, .. } => refusal_status(refusal),
+            Answer::Dialect(answer) => answer.status(),
             _ => StatusCode::OK,
         }
     }
@@ -191,6 +195,7 @@ impl Answer {
             Answer::Started(action) => base.spell_action(alloc, instance, action),
             Answer::Found { action, .. } => base.spell_action(alloc, instance, action),
             Answer::Joined(member) => base.spell_recovery(alloc, instance, member),
+            Answer::Dialect(answer) => answer.uri(alloc, instance, base),
             _ => Ok(String::new(alloc)),
         }
     }
@@ -221,22 +226,43 @@ impl Answer {
             Answer::Member(status) => one_text(alloc, "status", status.name()),
             Answer::Denied(api_error) => api_error.body(alloc),
             Answer::Retry { refusal, .. } => refusal_body(alloc, refusal),
+            Answer::Dialect(answer) => answer.body(alloc, uri),
         }
     }
 
-    /// Makes the text of the answer's body.
-    fn text(self, alloc: Global, uri: &str) -> Result<String, Memory>
+    /// Makes the compact text of the answer's body.
+    fn compact(self, alloc: Global, uri: &str) -> Result<String, Memory>
         ensures { IfOk result (λ text. string_bytes text ≡ compact_text (spec.body_of uri.now self)) }
     {
         self.body(alloc, uri)?.to_string(alloc)
     }
 
+    /// Makes the text of the answer's body.
+    fn text(self, alloc: Global, uri: &str) -> Result<String, Memory>
+        ensures { IfOk result (λ text. string_bytes text ≡ spec.text_of uri.now self) }
+    {
+        match self {
+            Answer::Dialect(answer) => answer.text(alloc, uri),
+            _ => self.compact(alloc, uri),
+        }
+    }
+
+    /// Returns the type of that text.
+    fn content_type(self) -> &'static str
+        ensures { result.now ≡ spec.content_type_of self }
+    {
+        match self {
+            Answer::Dialect(answer) => answer.content_type(),
+            _ => "application/json",
+        }
+    }
+
     /// Appends the fields of this answer alone. `uri` is the URI that the answer names, and `wait` its seconds.
     fn add_fields<'a>(self, uri: &'a str, wait: &'a str, fields: &mut Vec<(&'a str, &'a str)>)
-        requires room { vec_len fields.old + 2 ≤ vec_capacity fields.old }
+        requires room { vec_len fields.old + 3 ≤ vec_capacity fields.old }
         requires wait { wait.now ≡ wait_of self }
         ensures fields { map seen fields.new.items ≡ map seen fields.old.items ++ spec.own_fields uri.now self }
-        ensures room { (vec_len fields.new ≤ vec_len fields.old + 2) ×
+        ensures room { (vec_len fields.new ≤ vec_len fields.old + 3) ×
             (vec_capacity fields.new ≡ vec_capacity fields.old) }
     {
         match self {
@@ -252,6 +278,7 @@ impl Answer {
                 fields.push_reserved(("WWW-Authenticate", "Bearer realm=\"lra\""));
             }
             Answer::Retry { .. } => fields.push_reserved(("Retry-After", wait)),
+            Answer::Dialect(answer) => answer.add_fields(uri, fields),
             _ => {}
         }
     }
@@ -271,7 +298,7 @@ impl Answer {
             → map seen fields.items ≡ spec.fields_of uri.now self text close) }
     {
         let mut fields: Vec<(&'a str, &'a str)> = Vec::with_capacity(alloc, MOST_FIELDS)?;
-        fields.push_reserved(("Content-Type", "application/json"));
+        fields.push_reserved(("Content-Type", self.content_type()));
         fields.push_reserved(("Content-Length", digits));
         self.add_fields(uri, wait, &mut fields);
         if close {

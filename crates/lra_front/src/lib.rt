@@ -5,6 +5,7 @@ mod answer;
 mod api_error;
 mod api_request;
 mod body;
+mod dialect_answer;
 mod laws;
 mod operation;
 mod paths;
@@ -16,6 +17,9 @@ mod stream;
 pub use answer::Answer;
 pub use api_error::ApiError;
 pub use api_request::ApiRequest;
+pub use dialect_answer::{
+    DialectAnswer, DialectMethods, DialectRefusal, DialectTold, DialectVersion,
+};
 pub use laws::{replies_are_listed, streams_are_transcripts, streams_write_in_turn};
 pub use lra_clocks::Clock;
 pub use operation::{Operation, Resource};

@@ -26,6 +26,8 @@ pub enum Word {
     MembersVia,
     /// The file with the token that callbacks give to members.
     MemberToken,
+    /// The interface that services speak.
+    Dialect,
     /// The level from which on events are logged.
     Log,
     /// Format in which events are logged.
@@ -36,7 +38,7 @@ pub enum Word {
 
 impl Word {
     /// All these options, in the order of the help.
-    pub const ALL: [Word; 13] = [
+    pub const ALL: [Word; 14] = [
         Word::Base,
         Word::AlsoBase,
         Word::Token,
@@ -47,6 +49,7 @@ impl Word {
         Word::Members,
         Word::MembersVia,
         Word::MemberToken,
+        Word::Dialect,
         Word::Log,
         Word::LogFormat,
         Word::Fence,
@@ -65,6 +68,7 @@ impl Word {
             Word::Members => "members",
             Word::MembersVia => "members-via",
             Word::MemberToken => "member-token",
+            Word::Dialect => "dialect",
             Word::Log => "log",
             Word::LogFormat => "log-format",
             Word::Fence => "fence",
@@ -83,7 +87,7 @@ impl Word {
             Word::Token | Word::OperatorsKey | Word::Key => "FILE",
             Word::MemberToken | Word::Fence => "FILE",
             Word::Operators => "ADDRESS",
-            Word::Origin => "NAME",
+            Word::Origin | Word::Dialect => "NAME",
             Word::Members => "RULE",
             Word::MembersVia => "IP:PORT",
             Word::Log => "LEVEL",
@@ -116,6 +120,9 @@ impl Word {
                 "The proxy by which members are called; joins may then name https addresses [none]"
             }
             Word::MemberToken => "The file with the token that callbacks give to members [none]",
+            Word::Dialect => {
+                "The interface that services speak: narayana, as clients of MicroProfile LRA do [its own]"
+            }
             Word::Log =>
                 "Events from this level on go to standard error: error, warn, info or debug [none]",
             Word::LogFormat => "How they are written: text or json [text]",

@@ -6,3 +6,4 @@ pub mod Starts
 pub mod Spellings
 pub mod Settled
 pub mod Orders
+pub mod Translating

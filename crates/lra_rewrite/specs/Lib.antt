@@ -4,6 +4,7 @@ pub mod Texts
 pub mod Bodies
 pub mod Requests
 pub mod Asked
+pub mod Dialect
 pub mod Serving
 pub mod Limits
 pub mod Https

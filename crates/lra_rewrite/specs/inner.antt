@@ -2,3 +2,4 @@ pub mod Asks
 pub mod Limited
 pub mod Made
 pub mod Stays
+pub mod Translated

@@ -5,6 +5,7 @@
 mod asked;
 mod bodies;
 mod body_filter;
+mod dialect;
 mod https;
 mod laws;
 mod limits;

@@ -12,13 +12,14 @@ use lra_front::ApiError;
 use lra_ids::Base;
 use lra_logs::{Event, EventSink, Port};
 use lra_member_rules::MemberRulesFilter;
+use lra_narayana::DialectRouter;
 use lra_opening::Notifier;
 use lra_operators_server::{CountingHandler, Tallies};
 use lra_rewrite::{BodyFilter, RewriteFilter, copy_bases};
 use lra_rules::Rules;
 use lra_steps::Handler;
 use lra_traces::Traces;
-use std::alloc::Global;
+use std::alloc::{AllocError, Global};
 use std::net::SocketAddr;
 use std::sync::Wait;
 use std::time::Clock;
@@ -46,6 +47,8 @@ pub struct AccessPolicy<'a> {
     pub member_token: Option<&'a TokenFile>,
     /// Traces of the requests that end actions, if callbacks bear them.
     pub traces: Option<&'a Traces>,
+    /// Flag, set if requests are of the dialect of clients of MicroProfile LRA.
+    pub speaks_dialect: bool,
 }
 
 impl<'a> AccessPolicy<'a> {
@@ -63,6 +66,7 @@ impl<'a> AccessPolicy<'a> {
             retry_after: None,
             member_token: None,
             traces: None,
+            speaks_dialect: false,
         }
     }
 
@@ -160,6 +164,17 @@ impl<H: Notifier> ReloadListener for RefusalLogger<'_, H> {
     }
 }
 
+/// Makes the router of the dialect, if requests are of it.
+fn dialect_router(alloc: Global, speaks: bool) -> Result<Option<DialectRouter>, AllocError> {
+    if !speaks {
+        return Ok(None);
+    }
+    match DialectRouter::new(alloc) {
+        Ok(router) => Ok(Some(router)),
+        Err(fault) => Err(fault),
+    }
+}
+
 /// Adds the filters of an access policy to a handler. Returns the handler if memory is refused.
 pub fn receive<'a, R: Wait + Clock + KeyFiles, H: Notifier + EventSink, A: Handler>(
     rt: &'a R,
@@ -171,9 +186,14 @@ pub fn receive<'a, R: Wait + Clock + KeyFiles, H: Notifier + EventSink, A: Handl
     let Ok(olders) = copy_bases(alloc, access_policy.olders) else {
         return Err(inner);
     };
+    let Ok(dialect) = dialect_router(alloc, access_policy.speaks_dialect) else {
+        drop(olders);
+        return Err(inner);
+    };
     let Ok(key_cache) = KeyCache::new(rt, refusal_logger, access_policy.keys, access_policy.names)
     else {
         drop(olders);
+        drop(dialect);
         return Err(inner);
     };
     let member_rules_filter = MemberRulesFilter::new(inner, access_policy.rules);
@@ -188,7 +208,7 @@ pub fn receive<'a, R: Wait + Clock + KeyFiles, H: Notifier + EventSink, A: Handl
         refusal_logger.tallies,
         access_policy.traces,
     );
-    let rewrite_filter = RewriteFilter::new(counted, olders, access_policy.is_strict);
+    let rewrite_filter = RewriteFilter::new(counted, olders, access_policy.is_strict, dialect);
     let told = RefusalLogger::new(
         alloc,
         access_policy,

@@ -7,7 +7,7 @@ use Rattle.lra_wire.specs.declared.fault.WireFault.{WireFault}
 use Rattle.lra_wire.specs.declared.fault.WireFault.TheVariants.{BadHead, Chunked, BadLength, TooLarge, Cut, Io, Memory}
 use Rattle.lra_wire.specs.declared.request.RequestRead.{RequestRead}
 use Rattle.lra_wire.specs.declared.told.RequestFields.{RequestFields}
-use Rattle.lra_wire.specs.Fields.{values_of, body_length_of, lists_close}
+use Rattle.lra_wire.specs.Fields.{values_of, has_field, body_length_of, lists_close}
 use Rattle.lra_wire.specs.Streams.{UpToLine}
 
 -- the value of a field that occurs exactly once
@@ -17,13 +17,18 @@ sole (value ∷ []) = Some value
 sole (value ∷ other ∷ values) = None
 
 -- the values of fields that say which client asks, from where, with what, and in which trace, of each that a head has
--- exactly once (RFC 9110, sections 7.2, 8.3 and 11.6.2; RFC 6454, section 7; Trace Context, level 1, section 3.2)
+-- exactly once (RFC 9110, sections 7.2, 8.3, 11.6.2 and 12.5.1; RFC 6454, section 7; RFC 8288, section 3; Trace
+-- Context, level 1, section 3.2; Narayana's interface)
 pub record Fields : Type 0 where
   pub authorization : Option (List ℕ)
   pub content_type : Option (List ℕ)
   pub host : Option (List ℕ)
   pub origin : Option (List ℕ)
   pub traceparent : Option (List ℕ)
+  pub accept : Option (List ℕ)
+  pub link : Option (List ℕ)
+  pub api_version : Option (List ℕ)
+  pub has_data : Bool
 
 -- these values among the fields of a head
 abbrev pub told_by : List (List ℕ × List ℕ) → Fields
@@ -33,6 +38,10 @@ told_by fields = record {
   host = sole (values_of (codes "host") fields);
   origin = sole (values_of (codes "origin") fields);
   traceparent = sole (values_of (codes "traceparent") fields);
+  accept = sole (values_of (codes "accept") fields);
+  link = sole (values_of (codes "link") fields);
+  api_version = sole (values_of (codes "narayana-lra-api-version") fields);
+  has_data = has_field (codes "narayana-lra-participant-data") fields;
 }
 
 -- the same values, as the code read them
@@ -43,6 +52,10 @@ what_fields read = record {
   host = option_map (λ value. value.items) read.host;
   origin = option_map (λ value. value.items) read.origin;
   traceparent = option_map (λ value. value.items) read.traceparent;
+  accept = option_map (λ value. value.items) read.accept;
+  link = option_map (λ value. value.items) read.link;
+  api_version = option_map (λ value. value.items) read.api_version;
+  has_data = read.has_data;
 }
 
 -- a request without where it lies in memory

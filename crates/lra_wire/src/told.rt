@@ -1,10 +1,11 @@
-//! The fields that say which client asks, from where, with what, and in which trace.
+//! The fields that say which client asks, from where, with what, and in which trace, and what it says beside the target
+//! and the body.
 ghost use Rattle.std.specs.Prelude.{◌≡◌, ◌≤◌, length, map, option_map, All, IfOk};
 ghost use Rattle.httparse.specs.Spans.{IsHeaderWithin, header_bytes};
 ghost use Rattle.lra_wire.specs.Fields.{values_of};
 ghost use Rattle.lra_wire.specs.Request.{sole, told_by, what_fields};
 
-use crate::fields::{Named, lookup};
+use crate::fields::{Named, has, lookup};
 use httparse::spans::HeaderSpan;
 use std::alloc::{AllocError, Global};
 
@@ -22,6 +23,14 @@ pub struct RequestFields {
     pub origin: Option<Vec<u8>>,
     /// `traceparent` (Trace Context, level 1, section 3.2).
     pub traceparent: Option<Vec<u8>>,
+    /// `Accept` (RFC 9110, section 12.5.1).
+    pub accept: Option<Vec<u8>>,
+    /// `Link` (RFC 8288, section 3).
+    pub link: Option<Vec<u8>>,
+    /// `Narayana-LRA-API-version`.
+    pub api_version: Option<Vec<u8>>,
+    /// Flag that the head has a field `Narayana-LRA-Participant-Data`.
+    pub has_data: bool,
 }
 
 /// Copies a value, if there is one.
@@ -68,6 +77,10 @@ pub(crate) fn fields_at(
         host: sole(alloc, bytes, fields, b"host")?,
         origin: sole(alloc, bytes, fields, b"origin")?,
         traceparent: sole(alloc, bytes, fields, b"traceparent")?,
+        accept: sole(alloc, bytes, fields, b"accept")?,
+        link: sole(alloc, bytes, fields, b"link")?,
+        api_version: sole(alloc, bytes, fields, b"narayana-lra-api-version")?,
+        has_data: has(bytes, fields, b"narayana-lra-participant-data"),
     })
 }
 
@@ -85,6 +98,10 @@ impl RequestFields {
             host: None,
             origin: None,
             traceparent: None,
+            accept: None,
+            link: None,
+            api_version: None,
+            has_data: false,
         }
     }
 
@@ -98,6 +115,10 @@ impl RequestFields {
             host: copy_of(alloc, &self.host)?,
             origin: copy_of(alloc, &self.origin)?,
             traceparent: copy_of(alloc, &self.traceparent)?,
+            accept: copy_of(alloc, &self.accept)?,
+            link: copy_of(alloc, &self.link)?,
+            api_version: copy_of(alloc, &self.api_version)?,
+            has_data: self.has_data,
         })
     }
 }

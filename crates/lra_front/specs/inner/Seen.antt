@@ -1,10 +1,9 @@
 -- The parts that a reply is written from.
 use Rattle.std.specs.Prelude.{◌≡◌, ℕ, List, [], length, decimal, string_bytes}
-use Rattle.serde_json.specs.Written.{compact_text}
 use Rattle.lra_front.specs.declared.answer.Answer.{Answer}
 use Rattle.lra_front.specs.declared.answer.Answer.TheVariants as answer
 use Rattle.lra_front.specs.declared.answer.Parts.{Parts}
-use Rattle.lra_front.specs.Replies.{Field, uri_of, body_of}
+use Rattle.lra_front.specs.Replies.{Field, uri_of, text_of}
 use denote.Ref.{Bor}
 
 -- a field's name and value, wherever they lie
@@ -19,6 +18,6 @@ wait_of _ = []
 -- the parts are those of the answer
 pub record IsPartsOf (i : ℕ) (base : List ℕ) (a : Answer) (parts : Parts) : Type 0 where
   pub uri : string_bytes parts.uri ≡ uri_of i base a
-  pub text : string_bytes parts.text ≡ compact_text (body_of (uri_of i base a) a)
-  pub digits : string_bytes parts.digits ≡ decimal (length (compact_text (body_of (uri_of i base a) a)))
+  pub text : string_bytes parts.text ≡ text_of (uri_of i base a) a
+  pub digits : string_bytes parts.digits ≡ decimal (length (text_of (uri_of i base a) a))
   pub wait : string_bytes parts.wait ≡ wait_of a

@@ -1,25 +1,18 @@
-use Rattle.std.proofs.Common.{◌≡◌, rules, ap, inr, subst, option_map}
-use Rattle.std.specs.Prelude.{IfOk, IsSome, OnErr}
-use Rattle.lra_wire.specs.Request.{Request, request_of}
-use Rattle.lra_rewrite.specs.Paths.{other_target}
-use Rattle.lra_rewrite.specs.inner.Made.{moved}
+use Rattle.std.proofs.Common.{rules, ap, inl, inr, sym, ◌∙◌, is_some}
 use Rattle.lra_rewrite.proofs.rewrite_filter.RewriteFilterHandler.respond.Goals as goal
 
-pub ask_moved-requires-clause-ok : goal.ask_moved-requires-clause-ok
-ask_moved-requires-clause-ok g c =
-    subst (λ (own : Request). IfOk c.moved_request-moved.result (λ other. option_map request_of other
-    ≡ moved (g.A.Handler.base_of (g.A.Handler.sight c.args.self.now.inner)) own)) c.request-own.ensures
-    (rw c.base-base.ensures at c.moved_request-moved.ensures.ok)
+pub returns-in-Some-clause-responds : goal.returns-in-Some-clause-responds
+returns-in-Some-clause-responds g c = record {
+  olders = ap (λ olders. olders.items) c.respond_translated.ensures.olders;
+  is_strict = c.respond_translated.ensures.is_strict;
+  speaks = ap is_some c.respond_translated.ensures.dialect;
+  inner = inl (search rules, c.respond_translated.ensures.does);
+}
 
-pub ask_moved-requires-clause-err : goal.ask_moved-requires-clause-err
-ask_moved-requires-clause-err g c =
-    subst (λ (own : Request). OnErr c.moved_request-moved.result
-    (IsSome (other_target (g.A.Handler.base_of (g.A.Handler.sight c.args.self.now.inner)) own.target)))
-    c.request-own.ensures (rw c.base-base.ensures at c.moved_request-moved.ensures.err)
-
-pub returns-clause-responds : goal.returns-clause-responds
-returns-clause-responds g c = record {
-  olders = ap (λ olders. olders.items) c.ask_moved.ensures.olders;
-  is_strict = c.ask_moved.ensures.is_strict;
-  inner = inr (search rules, c.ask_moved.ensures.asks);
+pub returns-in-None-clause-responds : goal.returns-in-None-clause-responds
+returns-in-None-clause-responds g c = record {
+  olders = ap (λ olders. olders.items) c.respond_own.ensures.olders;
+  is_strict = c.respond_own.ensures.is_strict;
+  speaks = ap is_some c.respond_own.ensures.dialect;
+  inner = inr (search rules, c.respond_own.ensures.does);
 }
