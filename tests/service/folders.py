@@ -1,6 +1,7 @@
 """A service over a folder of journals: how they roll and are put away, what goes to which,
 and the bad worlds of a folder."""
 import contextlib
+import errno
 import glob
 import os
 import re
@@ -16,6 +17,7 @@ import journal
 from files import SOUND, UNSOUND
 from participant import Participant, wait_for_ends, wait_until
 from service import HOST, PATIENCE, LeftOut, Run, Telling, check, equal, free_port, id_of, least_share
+from watching import denial
 
 # The name that a journal has until it is in use.
 NEXT = re.compile(r"([0-9a-f]{15})\.next")
@@ -39,6 +41,18 @@ def instance_of(uri):
     all of it that is neither the version nor behind it."""
     digits = uuid.UUID(id_of(uri)).hex
     return digits[:12] + digits[13:16]
+
+
+def leave_unarchived(service, client):
+    """Ends all actions of a folder's first journal, which leaves, but can't be archived: the disk is full. Returns the
+    actions. The service is one that calls can be denied to."""
+    actions = service.first(3)
+    service.wait_for(2)
+    service.deny(denial("link", "/ended/.*.journal$", errno.ENOSPC))
+    for action in actions:
+        equal("an end", client.end(action, "close"), "Closed")
+    wait_until("it can't be archived", service.denied)
+    return actions
 
 
 class Folder(Telling):

@@ -1,7 +1,6 @@
 """The operators' port: health, metrics, lists, pages and orders, who may ask, and that nobody who is slow blinds it."""
 import base64
 import contextlib
-import errno
 import http.client
 import json
 import os
@@ -24,7 +23,7 @@ import journal
 from participant import Participant, wait_until
 from service import HOST, LATE, PATIENCE, LeftOut, Reply, Service, check, equal, free_port, id_of
 from tokens import TOKEN, token_file
-from watching import Deniable, denial
+from watching import Deniable
 
 KEY = "a key of the operators"
 FORM = "application/x-www-form-urlencoded"
@@ -221,12 +220,7 @@ class Unarchived(Deniable, WatchedFolder):
 def test_a_journal_that_has_left_and_is_not_archived_yet_has_not_stopped(setting):
     """What names it can't be answered then. Nothing is wrong with the journal, and nothing says so."""
     with Unarchived(setting) as service, service.client() as client:
-        actions = service.first(3)
-        service.wait_for(2)
-        service.deny(denial("link", "/ended/.*.journal$", errno.ENOSPC))
-        for action in actions:
-            equal("an end", client.end(action, "close"), "Closed")
-        wait_until("it can't be archived", service.denied)
+        actions = folders.leave_unarchived(service, client)
         for action in actions:
             for method, rest in (("GET", ""), ("PUT", "/close")):
                 with service.client() as other:

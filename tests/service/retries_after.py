@@ -1,7 +1,6 @@
 """Replies that say when to send again, by an option of the service: for a file and for a folder. Those do that are
 refused for what goes away by itself, and no others (RFC 9110, section 10.2.3)."""
 import errno
-import time
 from collections import Counter
 
 import allocations
@@ -10,13 +9,13 @@ import folders
 from bases import Based
 from folders import Folder
 from participant import Participant, wait_until
-from service import CLOSED, check, equal, id_of
+from service import CLOSED, calm, check, equal, id_of
 from watching import Deniable, denial
 
 SECONDS = "7"
 OPTION = ("--retry-after", SECONDS)
-# Where no allocation is refused any more, all that a request takes were tried. How long a service takes to be calm.
-MOST_REFUSED, CALM = 200, 1
+# Where no allocation is refused any more, all that a request takes were tried.
+MOST_REFUSED = 200
 JSON = {"Content-Type": "application/json"}
 
 
@@ -44,7 +43,7 @@ def memory_refused(service, counter, wanted):
     codes = Counter()
     with service, service.client() as client:
         client.start()
-        time.sleep(CALM)
+        calm(service)
         for number in range(1, MOST_REFUSED):
             counter.refuse(number)
             try:
@@ -81,12 +80,7 @@ def test_refused_memory_says_when_to_send_again(setting):
 def being_archived(setting, options, wanted):
     """A journal that has left and isn't archived yet: what names it is refused, and says what is wanted."""
     with Unarchived(setting, *options) as service, service.client() as client:
-        actions = service.first(3)
-        service.wait_for(2)
-        service.deny(denial("link", "/ended/.*.journal$", errno.ENOSPC))
-        for action in actions:
-            equal("an end", client.end(action, "close"), "Closed")
-        wait_until("it can't be archived", service.denied)
+        actions = folders.leave_unarchived(service, client)
         for action in actions:
             for method, rest in (("GET", ""), ("HEAD", ""), ("PUT", "/close")):
                 path = f"/lra-coordinator/{id_of(action)}{rest}"
