@@ -1,10 +1,14 @@
 """Chunked bodies of requests and `Expect: 100-continue`, with `--chunked` and without: pieces cut at each byte,
-extensions, trailers, limits, requests sent ahead, and framings by which a request could be smuggled."""
+extensions, trailers, limits, requests sent ahead, and framings by which a request could be smuggled, some made at
+random."""
 import json
+import os
 import random
 import socket
 import time
 
+import framings
+import journal
 from options import config, refused, told_of
 from service import Service, check, equal, is_ready, received
 
@@ -17,6 +21,8 @@ TOO_LARGE, NOT_SERVED = (413, "TooLarge"), (501, "Chunked")
 CONTINUE = b"HTTP/1.1 100 Continue\r\n\r\n"
 CODED = b"Transfer-Encoding: chunked\r\n"
 MOST = 65_536
+# How many connections are made at random.
+RANDOM = 200
 
 
 def chunked(*contents, extension=b"", trailer=b""):
@@ -204,6 +210,28 @@ def test_random_bodies_in_random_chunks(setting):
             place = random.randrange(1, len(request))
             got, wanted = exchange(service, request[:place], request[place:]), exchange(service, sized(body))
             equal(f"body {number}, {body[:60]!r} in {len(contents)} chunks", got, wanted)
+
+
+def random_pieces(rng, data):
+    """The bytes in some pieces, cut anywhere."""
+    return framings.cut(rng, data, rng.choice((1, 3, 20)))
+
+
+def test_random_framings_in_random_pieces(setting):
+    seed = os.environ.get("FRAMINGS_SEED", random.randrange(10**6))
+    rng, fresh, ordered = random.Random(f"{seed} framings"), framings.limits(), []
+    with Chunked(setting) as service:
+        for number in range(RANDOM):
+            messages = framings.connection(rng, fresh)
+            pieces = random_pieces(rng, b"".join(it.data for it in messages))
+            got, wanted = exchange(service, *pieces, pause=rng.choice((0, 0, 0.001))), framings.replies_to(messages)
+            told = f"seed {seed}, connection {number}, {[it.what for it in messages]}: {got}, wanted {wanted}"
+            check(told, framings.agree(got, wanted))
+            ordered += framings.ordered_by(messages)
+    # Nothing that stood behind a fault was ordered.
+    starts = [int(it.fields[2]) for it in journal.entries(setting.journal) if it.deed == "start"]
+    equal(f"seed {seed}: the limits of what was started", starts, ordered)
+    journal.check_sound(setting.program, journal.read(setting.journal), setting.folder)
 
 
 def expecting(fields, expectation=b"100-continue"):

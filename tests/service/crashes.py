@@ -1,5 +1,5 @@
 """A service that is killed again and again under many clients: what it has answered is in the file,
-and the file is sound."""
+and the file is sound. The same of one that speaks the dialect."""
 import http.client
 import random
 import threading
@@ -7,14 +7,28 @@ import time
 from collections import Counter
 
 import journal
+import narayana
 from participant import Participant, wait_until
-from service import Client, check, equal, free_port, id_of, number_of
+from service import Client, check, equal, free_port, number_of
 
 ROUNDS = 50
+# How often one that speaks the dialect is killed.
+FEW = 5
 CLIENTS = 8
 SEED = 7
 # How many lines are told at least before each other kill, however busy the machine is.
 SOME = 30
+
+
+# What an action's status may be after what its client was told last: a close or cancel, or neither. The reply to a
+# further one may have been lost.
+MAY_BE = {
+    "close": {"Closing", "Closed"},
+    "cancel": {"Cancelling", "Cancelled"},
+    None: {"Active", "Closing", "Closed", "Cancelling", "Cancelled"},
+}
+# The addresses of members.
+KINDS = ("compensate", "complete", "after")
 
 
 class Told:
@@ -36,14 +50,14 @@ def turn(client, member, told, chance):
     number = str(number_of(action := client.start()))
     told.lines.append(("start", number))
     if chance.random() < 0.3:
-        recovery = client.join(action, **member.addresses("compensate", "complete", "after"))
+        recovery = client.join(action, **member.addresses(*KINDS))
         told.lines.append(("join", str(number_of(recovery)), number))
     elif chance.random() < 0.3:
         left = client.join(action, **member.addresses("after"))
-        equal("leaving", client.call("PUT", f"/lra-coordinator/{id_of(action)}/remove", recovery=left).code, 200)
+        client.leave(action, left)
         told.lines.append(("leave", str(number_of(left))))
     if chance.random() < 0.2:
-        equal("renewing", client.call("PUT", f"/lra-coordinator/{id_of(action)}/renew", limit=10**9).code, 200)
+        client.renew(action, 10**9)
         told.lines.append(("renew", number, str(10**9)))
     if chance.random() < 0.9:
         how = chance.choice(("close", "cancel"))
@@ -53,11 +67,11 @@ def turn(client, member, told, chance):
             told.lines.append(("end", number, status))
 
 
-def work(port, member, told, seed):
-    """Gives commands until the service is gone."""
+def work(port, member, told, seed, caller=Client):
+    """Gives commands until the service is gone, by such a client."""
     chance = random.Random(seed)
     try:
-        with Client(port) as client:
+        with caller(port) as client:
             while True:
                 turn(client, member, told, chance)
     except (OSError, http.client.HTTPException):
@@ -66,11 +80,14 @@ def work(port, member, told, seed):
         told.faults.append(str(fault))
 
 
-def kill_under_load(setting, port, member, told, number):
-    """Kills a service that eight clients call."""
-    with setting.serve(4, port) as service:
+def kill_under_load(given, port, member, told, number, lines):
+    """Kills a service that eight clients call. It tells first what those lines of the last one tell."""
+    with given as service:
+        with service.client() as client:
+            check_there(client, member, lines)
+            caller = type(client)
         clients = [
-            threading.Thread(target=work, args=(port, member, told, SEED + CLIENTS * number + n))
+            threading.Thread(target=work, args=(port, member, told, SEED + CLIENTS * number + n, caller))
             for n in range(CLIENTS)
         ]
         before = len(told.lines)
@@ -117,31 +134,65 @@ class Watch:
         equal("asked, and not in the file", missing[:5], [])
 
 
+def check_there(client, member, lines):
+    """Asks a service for what answers told before: each action has the status that was told, or one that may have come
+    since, and a member that joins an active one again is the same."""
+    told, joined = {}, {}
+    for line in lines:
+        if line[0] == "start":
+            told[line[1]] = MAY_BE[None]
+        elif line[0] in MAY_BE:
+            told[line[1]] = MAY_BE[line[0]]
+        elif line[0] == "end":
+            told[line[1]] = {line[2]}
+        elif line[0] == "join":
+            joined[line[2]] = line[1]
+    prefix = client.start()[:-12] if told else ""
+    for number, wanted in told.items():
+        action = f"{prefix}{int(number):012x}"
+        status = client.status(action)
+        check(f"action {number} is {status}, wanted one of {sorted(wanted)}", status in wanted)
+        if status == "Active" and number in joined:
+            recovery = client.join(action, **member.addresses(*KINDS))
+            equal(f"a member of action {number}", str(number_of(recovery)), joined[number])
+
+
 def ends(client, told):
     """Waits until the actions that were told to end have ended."""
+    prefix = client.start()[:-12]
 
     def has_ended(number):
-        path = f"/lra-coordinator/{client.prefix}{int(number):012x}"
-        return client.call("GET", path).body["status"] in ("Closed", "Cancelled")
+        return client.status(f"{prefix}{int(number):012x}") in ("Closed", "Cancelled")
 
     for deed, number, *_ in told.lines:
         if deed in ("close", "cancel"):
             wait_until(f"the end of action {number}", lambda number=number: has_ended(number), 60)
 
 
-def test_what_is_answered_is_in_the_file_after_each_of_fifty_kills(setting):
-    told, watch, port = Told(), Watch(setting), free_port()
+def kill_all(setting, serve, rounds):
+    """Kills a service so often under load, and answers what was seen. `serve` makes one that listens at a port."""
+    told, watch, port, checked = Told(), Watch(setting), free_port(), 0
     with Participant() as member:
-        for number in range(ROUNDS):
-            kill_under_load(setting, port, member, told, number)
+        for number in range(rounds):
+            fresh = told.lines[checked:]
+            checked += len(fresh)
+            kill_under_load(serve(port), port, member, told, number, fresh)
             equal("what clients met", told.faults, [])
             watch.look()
             watch.check_told(told)
             watch.check_asked(member.requests)
-        check(f"only {len(told.lines)} commands were answered", len(told.lines) > 10 * ROUNDS)
-        with setting.serve(4, port) as service, service.client() as client:
-            client.prefix = id_of(client.start())[:-12]
+        check(f"only {len(told.lines)} commands were answered", len(told.lines) > 10 * rounds)
+        with serve(port) as service, service.client() as client:
+            check_there(client, member, told.lines[checked:])
             ends(client, told)
     watch.look()
     asks = sum(watch.asks.values())
     return f"{len(told.lines)} lines that answers told of, {asks} asks, {watch.front.count(10) - 1} entries"
+
+
+def test_what_is_answered_is_in_the_file_after_each_of_fifty_kills(setting):
+    return kill_all(setting, lambda port: setting.serve(4, port), ROUNDS)
+
+
+def test_what_the_dialect_answered_is_in_the_file_after_each_of_five_kills(setting):
+    return kill_all(setting, lambda port: narayana.Narayana(setting, workers=4, port=port), FEW)

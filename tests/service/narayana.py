@@ -1,5 +1,5 @@
-"""The dialect of MicroProfile LRA's clients in Java: a client written by the facts of Narayana's interface, 1,000 random
-exchanges beside a model of its tables, and a program in Java that sends what the annotations' client sends."""
+"""The dialect of MicroProfile LRA's clients in Java: a client written by the facts of Narayana's interface, 1,000
+random exchanges beside a model of its tables, and a program in Java that sends what the annotations' client sends."""
 import collections
 import http.client
 import json
@@ -24,12 +24,15 @@ Answer = collections.namedtuple("Answer", "code text fields")
 class Narayana(Service):
     """A service that speaks the dialect."""
 
-    def __init__(self, setting, *options):
-        super().__init__(setting.program, setting.journal)
+    def __init__(self, setting, *options, workers=2, port=None):
+        super().__init__(setting.program, setting.journal, workers, port)
         self.words[2:2] = ["--dialect", "narayana", *options]
 
     def speaker(self):
         return Speaker(self.port)
+
+    def client(self, keep=True):
+        return Caller(self.port)
 
 
 class Speaker:
@@ -70,6 +73,37 @@ class Speaker:
     def status(self, action):
         reply = self.say("GET", self.at(action, "/status"))
         equal("a status", reply.code, 200)
+        return reply.text
+
+
+class Caller(Speaker):
+    """A client of the dialect with the calls of `service.Client`. A member joins by links in the body, by links in the
+    field, or by both, one after another."""
+
+    def __init__(self, port):
+        super().__init__(port)
+        self.joins = 0
+
+    def join(self, action, **addresses):
+        text = ",".join(f'<{uri}>; rel="{it}"; title="{it} URI"' for it, uri in addresses.items())
+        self.joins += 1
+        reply = self.say(
+            "PUT", self.at(action), None if self.joins % 3 == 1 else text, {"Link": text} if self.joins % 3 else {}
+        )
+        equal("a join", (reply.code, reply.fields["Long-Running-Action-Recovery"]), (200, reply.text))
+        return reply.text
+
+    def leave(self, action, recovery):
+        equal("a leave", self.say("PUT", self.at(action, "/remove"), recovery)[:2], (200, ""))
+
+    def renew(self, action, limit):
+        equal("a renewal", self.say("PUT", self.at(action, "/renew"), "", TimeLimit=limit)[:2], (200, ""))
+
+    def end(self, action, how):
+        """Closes or cancels an action, and answers the status that is told."""
+        reply = self.say("PUT", self.at(action, "/" + how), "")
+        going = reply.text in ("Closing", "Cancelling")
+        equal(f"the code of a {how} that tells {reply.text}", reply.code, 202 if going else 200)
         return reply.text
 
 

@@ -198,6 +198,14 @@ class Client:
         check(f"a {how}: {reply}", reply.code in (200, 202))
         return reply.body["status"]
 
+    def leave(self, action, recovery):
+        """Lets a member leave its action."""
+        equal("a leave", self.call("PUT", f"/lra-coordinator/{id_of(action)}/remove", recovery=recovery).code, 200)
+
+    def renew(self, action, limit):
+        """Sets an action's limit anew."""
+        equal("a renewal", self.call("PUT", f"/lra-coordinator/{id_of(action)}/renew", limit=limit).code, 200)
+
     def status(self, action):
         """The status of an action."""
         reply = self.call("GET", "/lra-coordinator/" + id_of(action))
