@@ -1,7 +1,6 @@
 """Services that `fuzz` has called by several clients at once, and whose members answer anything: by the own interface,
 with chunked bodies (framings.py of tests/service has those whose replies are known), and by the dialect."""
 import contextlib
-import json
 import random
 import re
 import select
@@ -196,7 +195,7 @@ def visit(stream, end, data, share, kind):
 def exchange(it, messages, seed):
     """What is said over a connection of messages whose replies are known."""
     rng, wanted = random.Random(seed), framings.replies_to(messages)
-    pieces = framings.cut(rng, b"".join(message.data for message in messages), rng.choice((1, 3, 20)))
+    pieces = framings.pieces_of(rng, messages)
     try:
         got = chunked.exchange(it, *pieces, pause=rng.choice((0, 0, 0.001)))
     except TimeoutError:

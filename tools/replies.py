@@ -2,6 +2,9 @@
 import json
 import re
 
+from chunked import CONTINUE
+from mutations import ACTIONS
+
 REPLY = re.compile(rb"HTTP/1\.1 (\d{3}) ([A-Za-z ]+)\r\n((?:[A-Za-z-]+: [^\r\n]*\r\n)*)\r\n")
 FIELDS = (
     b"Content-Type Content-Length Location Long-Running-Action Long-Running-Action-Recovery Allow Connection"
@@ -17,13 +20,12 @@ REFUSALS = {
     405: "BadMethod", 409: "WrongAction TooDeep OldJournal", 410: "HasLeft", 412: "NotActive NotAsked", 413: "TooLarge",
     500: "NoSuchClerk", 501: "Chunked", 503: "Full",
 }
-CONTINUE = b"HTTP/1.1 100 Continue\r\n\r\n"
 # What the dialect of narayana.md has besides: fields, versions, and the refusals that are told as in the own interface,
 # since the request can't be read.
-OTHERS = {*FIELDS, b"Long-Running-Action-Recovery", b"Narayana-LRA-API-version"}
+OTHERS = {*FIELDS, b"Narayana-LRA-API-version"}
 VERSIONS = {None, b"1.0", b"1.1", b"1.2"}
 UNREAD = {400: "BadHead BadLength", 413: "TooLarge", 501: "Chunked"}
-STATES = "Active Closing Closed FailedToClose Cancelling Cancelled FailedToCancel".split()
+STATES = [it.decode() for it in ACTIONS]
 
 
 class Finding(Exception):

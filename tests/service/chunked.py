@@ -9,18 +9,14 @@ import time
 
 import framings
 import journal
+from framings import BAD_BODY, BAD_HEAD, BAD_LENGTH, CODED, CREATED, MOST, NO_ACTION, NOT_SERVED, TOO_LARGE
+from framings import HEAD as START
 from options import config, refused, told_of
 from service import Service, check, equal, is_ready, received
 
-START = b"POST /lra-coordinator HTTP/1.1\r\nHost: h\r\n"
 # A start with the parent that there isn't, and what it is answered: it shows that the body was read to its end.
 BODY = b'{"parent":"http://h/lra-coordinator/9","limit":1}'
-NO_ACTION, BAD_BODY, CREATED = (404, "NoSuchAction"), (400, "BadBody"), (201, None)
-BAD_HEAD, BAD_LENGTH = (400, "BadHead"), (400, "BadLength")
-TOO_LARGE, NOT_SERVED = (413, "TooLarge"), (501, "Chunked")
 CONTINUE = b"HTTP/1.1 100 Continue\r\n\r\n"
-CODED = b"Transfer-Encoding: chunked\r\n"
-MOST = 65_536
 # How many connections are made at random.
 RANDOM = 200
 
@@ -212,18 +208,13 @@ def test_random_bodies_in_random_chunks(setting):
             equal(f"body {number}, {body[:60]!r} in {len(contents)} chunks", got, wanted)
 
 
-def random_pieces(rng, data):
-    """The bytes in some pieces, cut anywhere."""
-    return framings.cut(rng, data, rng.choice((1, 3, 20)))
-
-
 def test_random_framings_in_random_pieces(setting):
     seed = os.environ.get("FRAMINGS_SEED", random.randrange(10**6))
     rng, fresh, ordered = random.Random(f"{seed} framings"), framings.limits(), []
     with Chunked(setting) as service:
         for number in range(RANDOM):
             messages = framings.connection(rng, fresh)
-            pieces = random_pieces(rng, b"".join(it.data for it in messages))
+            pieces = framings.pieces_of(rng, messages)
             got, wanted = exchange(service, *pieces, pause=rng.choice((0, 0, 0.001))), framings.replies_to(messages)
             told = f"seed {seed}, connection {number}, {[it.what for it in messages]}: {got}, wanted {wanted}"
             check(told, framings.agree(got, wanted))

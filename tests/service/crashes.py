@@ -134,6 +134,11 @@ class Watch:
         equal("asked, and not in the file", missing[:5], [])
 
 
+def prefix_of(client):
+    """What the identifiers of a service's actions begin with, up to their numbers."""
+    return client.start()[:-12]
+
+
 def check_there(client, member, lines):
     """Asks a service for what answers told before: each action has the status that was told, or one that may have come
     since, and a member that joins an active one again is the same."""
@@ -147,7 +152,7 @@ def check_there(client, member, lines):
             told[line[1]] = {line[2]}
         elif line[0] == "join":
             joined[line[2]] = line[1]
-    prefix = client.start()[:-12] if told else ""
+    prefix = prefix_of(client) if told else ""
     for number, wanted in told.items():
         action = f"{prefix}{int(number):012x}"
         status = client.status(action)
@@ -159,7 +164,7 @@ def check_there(client, member, lines):
 
 def ends(client, told):
     """Waits until the actions that were told to end have ended."""
-    prefix = client.start()[:-12]
+    prefix = prefix_of(client)
 
     def has_ended(number):
         return client.status(f"{prefix}{int(number):012x}") in ("Closed", "Cancelled")

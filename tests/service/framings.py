@@ -237,8 +237,8 @@ def wrongly_framed(rng, limit):
 
 
 def connection(rng, fresh):
-    """Messages of one connection, and the limits of the starts in them that aren't to be ordered: some that are well
-    framed, mostly one that isn't, and some behind it; or one that is cut."""
+    """Messages of one connection: some that are well framed, mostly one that isn't, and some behind it; or one that is
+    cut."""
     found = [well_framed(rng, next(fresh)) for _ in range(rng.choice((0, 1, 1, 2, 5)))]
     kind = rng.random()
     if kind < 0.15:
@@ -248,6 +248,11 @@ def connection(rng, fresh):
         found.append(wrongly_framed(rng, next(fresh)))
         found += [well_framed(rng, next(fresh)) for _ in range(rng.choice((1, 1, 3)))]
     return found
+
+
+def pieces_of(rng, messages):
+    """The bytes of messages in some pieces, cut anywhere."""
+    return cut(rng, b"".join(it.data for it in messages), rng.choice((1, 3, 20)))
 
 
 def answered(messages):
